@@ -1,0 +1,3 @@
+mod Exchanging
+mod Responding
+mod Hearing-on

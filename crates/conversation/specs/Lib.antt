@@ -1,0 +1,2 @@
+pub mod Talking
+pub mod Answering

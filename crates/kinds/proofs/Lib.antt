@@ -1,0 +1,2 @@
+mod Known
+pub mod Soundness
