@@ -1,4 +1,6 @@
 // Times settling: a kind, a line count, a plan, a hold list and a number of rounds on standard input, as bytes; nothing is timed where there are none.
+#![tactic(auto)]
+
 use card::Card;
 use card::fault::Fault;
 use card::plan::Plan;

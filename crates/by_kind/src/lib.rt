@@ -1,4 +1,6 @@
 // The calls on a card that is named by its kind and line count, over plain numbers and lists.
+#![tactic(auto)]
+
 ghost use Rattle.card.specs.Plans.{Lines};
 ghost use Rattle.sheets.specs.Sole.{Sole};
 ghost use Rattle.by_kind.specs.Planning.{Planned};

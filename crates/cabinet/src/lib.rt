@@ -1,4 +1,6 @@
 // A cabinet: any card under orders.
+#![tactic(auto)]
+
 ghost use Rattle.std.specs.Prelude.{◌≡◌, ◌≤◌, [], ◌∷◌, length};
 ghost use Rattle.cabinet.specs.Orders.{Row};
 ghost use Rattle.cabinet.specs.Logs.{Log, moved as moved_count};

@@ -1,4 +1,6 @@
 // The calls for C: the answer of each as one number.
+#![tactic(auto)]
+
 ghost use Rattle.std.specs.Prelude.{◌≡◌};
 ghost use Rattle.sheets.specs.Verdicts.{verdict_number};
 ghost use Rattle.by_kind.specs.Answering.{SheetAnswer, PlaceAnswer};

@@ -1,4 +1,6 @@
 // Cards of switch cells: the faults of all calls, plans, and the calls that every card answers.
+#![tactic(auto)]
+
 ghost use Rattle.std.specs.Prelude.{◌≡◌};
 ghost use Rattle.card.specs.Meaning.{Meaning, Sound};
 ghost use Rattle.card.specs.Placing as placing;

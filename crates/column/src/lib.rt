@@ -1,4 +1,6 @@
 // Column cards: one cell in each column, whose positions apply the leaders of a family.
+#![tactic(auto)]
+
 pub mod columns;
 pub mod families;
 pub mod leaders;

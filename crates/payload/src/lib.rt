@@ -1,4 +1,6 @@
 // What lines carry: line numbers and voice frames.
+#![tactic(auto)]
+
 ghost use Rattle.std.specs.Prelude.{◌≡◌};
 ghost use Rattle.payload.specs.Silence.{quiet_number, quiet_frame};
 

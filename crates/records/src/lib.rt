@@ -1,4 +1,6 @@
 // Records: orders, answers and voice frames as bytes.
+#![tactic(auto)]
+
 pub mod answer;
 pub mod frame;
 pub mod order;

@@ -1,4 +1,6 @@
 // Checks a sheet that stands as text on standard input, and writes the verdict in words.
+#![tactic(auto)]
+
 use sheet_text::phrases::{cause_words, misread_words, verdict_words};
 use sheet_text::reading::parse;
 use std::io::Read;

@@ -1,4 +1,6 @@
 // The check of another house's sheet: a setting for the same pairs and holds.
+#![tactic(auto)]
+
 ghost use Rattle.std.specs.Prelude.{◌≡◌, length, slice_index_or};
 ghost use Rattle.card.specs.declared.fault.Layer.TheVariants.{Cabinet};
 ghost use Rattle.card.specs.Faults.{fault};

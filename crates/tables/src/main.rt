@@ -1,4 +1,6 @@
 // Runs a table of cases from standard input, and writes one line of answers for each.
+#![tactic(auto)]
+
 use cabinet::Cabinet;
 use cabinet::command::{Command, Reply};
 use cabinet::serving::serve;

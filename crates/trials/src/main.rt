@@ -1,4 +1,6 @@
 // Runs cases from standard input, one a line, and writes the answer to each on a line.
+#![tactic(auto)]
+
 mod cards;
 mod orders;
 mod records_text;

@@ -1,4 +1,6 @@
 // Cards fitted back to front: a line goes through their columns from the last to the first.
+#![tactic(auto)]
+
 ghost use Rattle.std.specs.Prelude.{◌≡◌};
 ghost use Rattle.card.specs.Meaning.{Same};
 ghost use Rattle.turned.specs.Turning.{turned_meaning, Sourced, BackToFront};

@@ -1,4 +1,6 @@
 // The record program: order records on standard input, answers on standard output, each as soon as its record is whole.
+#![tactic(auto)]
+
 use conversation::talk::Talk;
 use std::io;
 use std::io::{Read, Write};

@@ -1,5 +1,7 @@
 // The words of a text, and the numbers that words write. A word is a run of bytes above the space; a comment goes from
 // `#` up to the end of its line.
+#![tactic(auto)]
+
 ghost use Rattle.std.specs.Prelude.{◌≡◌, ℕ, suc, ◌<◌, ◌≤◌, length, drop, slice_index};
 ghost use Rattle.words.specs.Words.{words_of, uncommented, comment_rest, Wordy, Next};
 ghost use Rattle.words.specs.Numbers.{Numbered};

@@ -1,4 +1,6 @@
 // Settings that are worked out: a table of cases, proved as one group.
+#![tactic(auto)]
+
 ghost use Rattle.std.specs.Prelude.{◌≡◌, length};
 ghost use Rattle.worked.specs.Table.{table};
 ghost use Rattle.worked.specs.Cases.{AllRight, numbers_at};
