@@ -1,8 +1,8 @@
 -- A table filled from pairs that break no rule is a plan.
-use Rattle.std.proofs.Common.{◌≡◌, ℕ, ◌+◌, ◌-◌, ◌<◌, ◌≤◌, ◌⊎◌, List, length, get_or, take, set, sym, refl, ◌∙◌, subst, inl, inr, ⊎_elim, arith, length-set}
-use Rattle.std.proofs.lemmas.List.{get_or_default, get_or-take, length-take-le, take-take, take_more_same, take-set, get_or-set_same, ext_get_or}
-use Rattle.std.proofs.lemmas.Bool.{cases_lt, cases_eq}
-use Rattle.card.specs.Plans.{Lines, Pairs, PlanLaw, Free, Taken, Fine, paired}
+use Rattle.std.proofs.Common.{◌≡◌, ℕ, ◌+◌, ◌-◌, ◌<◌, ◌≤◌, List, length, get_or, take, set, sym, ◌∙◌, subst, inl, inr, ⊎_elim, arith, length-set}
+use Rattle.std.proofs.lemmas.List.{get_or-take, length-take-le, take_more_same, take-set, get_or-set_same}
+use Rattle.std.proofs.lemmas.Bool.{cases_lt}
+use Rattle.card.specs.Plans.{Pairs, PlanLaw, Free, Taken, Fine}
 
 -- inputs that are fine, read upward, are pairs
 pub fine_pairs : (n : ℕ) (ps : List ℕ) → ((i : ℕ) → i < n → Fine n ps i) → Pairs n ps

@@ -1,5 +1,5 @@
 -- The first setting that fits is the only one, on all cards that mean the same.
-use Rattle.std.proofs.Common.{◌≡◌, ℕ, zero, suc, ◌<◌, ◌≤◌, ◌⊎◌, List, [], ◌∷◌, length, get_or, replicate, sym, refl, ap, ◌∙◌, subst, inl, inr, ⊎_elim, suc-le-suc, arith}
+use Rattle.std.proofs.Common.{◌≡◌, ℕ, zero, suc, ◌<◌, ◌⊎◌, List, [], ◌∷◌, length, get_or, replicate, sym, refl, ap, ◌∙◌, subst, inl, inr, ⊎_elim, suc-le-suc, arith}
 use Rattle.std.proofs.lemmas.Bool.{cases_order}
 use Rattle.card.specs.declared.fault.Cause.TheVariants.{NoSetting}
 use Rattle.card.specs.declared.fault.Layer.TheVariants.{Card}

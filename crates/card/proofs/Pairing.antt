@@ -3,9 +3,9 @@ use Rattle.std.proofs.Common.{◌≡◌, ℕ, zero, suc, ◌<◌, ◌≤◌, ◌
 use mathlib.Core.Logic.{∥∥₁_elim}
 use native.Mathlib.Bridge.{le_prop}
 use native.Mathlib.Nat.{ℕ_set}
-use Rattle.std.proofs.lemmas.List.{get_or-set_same, get_or-set_other, get_or-take, get_or_past, get_or_default, get_or-replicate, length-take-le, take-replicate}
-use Rattle.std.proofs.lemmas.Bool.{cases_lt, cases_eq}
-use Rattle.card.specs.Plans.{Lines, Pairs, PlanLaw, Free, paired}
+use Rattle.std.proofs.lemmas.List.{get_or-set_same, get_or-set_other, get_or-take, get_or_past, get_or_default, length-take-le, take-replicate}
+use Rattle.std.proofs.lemmas.Bool.{cases_eq}
+use Rattle.card.specs.Plans.{Pairs, PlanLaw, Free, paired}
 
 pub blank : (n i : ℕ) → get_or {A = ℕ} (replicate n 255) i 255 ≡ 255
 blank zero i = refl

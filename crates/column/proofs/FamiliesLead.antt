@@ -1,5 +1,5 @@
 -- The two families keep the law of leaders, and so their cards the rules of every card.
-use Rattle.std.proofs.Common.{◌≡◌, ℕ, ◌-◌, ◌≤◌, arith, rules}
+use Rattle.std.proofs.Common.{ℕ, ◌-◌, ◌≤◌, arith, rules}
 use Rattle.card.specs.Meaning.{Sound}
 use Rattle.column.specs.Families.{klw, bbc}
 use Rattle.column.specs.Leading.{Leading}

@@ -1,9 +1,9 @@
 -- How the words of a text go on from one byte to the next.
-use Rattle.std.proofs.Common.{◌≡◌, ℕ, zero, suc, ◌+◌, ◌-◌, ◌<◌, ◌≤◌, Bool, true, false, cond, ◌⊎◌, List, [], ◌∷◌, ◌++◌, length, get_or, take, drop, sym, refl, ap, ◌∙◌, subst, inl, inr, ⊎_elim, suc-le-suc, add-one, arith, length-drop, drop-cons, eq-eqb, ne_eqb, le-leb}
+use Rattle.std.proofs.Common.{◌≡◌, ℕ, suc, ◌+◌, ◌-◌, ◌<◌, ◌≤◌, List, [], ◌∷◌, ◌++◌, length, get_or, take, drop, sym, refl, ap, ◌∙◌, subst, ⊎_elim, suc-le-suc, add-one, arith, length-drop, drop-cons, eq-eqb, ne_eqb, le-leb}
 use borrow.Author.Tests.{lt-leb}
 use Rattle.std.proofs.lemmas.List.{take-append-drop, drop_all, drop-drop, get_or-take, get_or-drop, length-take-le}
 use Rattle.std.proofs.lemmas.Bool.{cases_eq, cases_lt}
-use Rattle.words.specs.Words.{blank, Wordy, kept, uncommented, comment_rest, grown, begun, runs, words_of}
+use Rattle.words.specs.Words.{Wordy, kept, uncommented, comment_rest, begun, runs, words_of}
 
 kept_hash : (b : ℕ) (bs : List ℕ) → b ≡ 35 → uncommented (b ∷ bs) ≡ comment_rest bs
 unfolding kept

@@ -1,4 +1,4 @@
-use Rattle.std.proofs.Common.{◌≡◌, ℕ, ◌+◌, ◌-◌, ◌*◌, ◌≤◌, length, get_or, drop, sym, ap, ◌∙◌, arith, below_more, false-eqb}
+use Rattle.std.proofs.Common.{ℕ, ◌+◌, ◌-◌, ◌*◌, length, get_or, drop, sym, ap, ◌∙◌, arith, below_more, false-eqb}
 use Rattle.std.proofs.lemmas.List.{drop_all}
 use Rattle.words.specs.Numbers.{decimal}
 use Rattle.words.proofs.Decimals.{at_least, decimal_more}
@@ -30,7 +30,7 @@ loop-digit-preserved c = (
 pub returns : goal.returns
 returns c =
     record {
-      some = let ne = false-eqb (length c.args.word.now) 0 c.if-is-empty.ensures in omega (arith, ne);
+      some = let ne = false-eqb (length c.args.word.now) 0 c.if-is_empty.ensures in omega (arith, ne);
       digits = λ k h. c.loop-digit.invariant.1 k (omega arith);
       value = sym c.loop-digit.invariant.2 ∙ ap (λ ds. decimal c.loop-digit.value ds) (drop_all c.loop-digit.digit-index c.args.word.now c.loop-digit-test.false);
       small = omega (arith, c.loop-digit.invariant.0);

@@ -4,9 +4,9 @@ use Rattle.words.proofs.word_start.Goals as goal
 
 pub loop-i-preserved-then-text-i-eq-COMMENT : goal.loop-i-preserved-then-text-i-eq-COMMENT
 loop-i-preserved-then-text-i-eq-COMMENT c = (
-  omega (arith, c.comment-end-i.ensures.after),
-  c.comment-end-i.ensures.within,
-  c.loop-i.invariant.2 ∙ comment_past c.args.text.now c.loop-i.i (omega arith) c.if-text-i-eq-COMMENT.true c.comment-end-i.result c.comment-end-i.ensures.rest,
+  omega (arith, c.comment_end-i.ensures.after),
+  c.comment_end-i.ensures.within,
+  c.loop-i.invariant.2 ∙ comment_past c.args.text.now c.loop-i.i (omega arith) c.if-text-i-eq-COMMENT.true c.comment_end-i.result c.comment_end-i.ensures.rest,
 )
 
 pub loop-i-preserved : goal.loop-i-preserved

@@ -1,5 +1,4 @@
-use Rattle.std.proofs.Common.{◌≡◌, ◌<◌, length, get_or, sym, refl, ◌∙◌, arith}
-use Rattle.card.specs.Meaning.{Lawful}
+use Rattle.std.proofs.Common.{sym, ◌∙◌, arith}
 use Rattle.card.specs.Placing.{Unplaceable}
 use Rattle.card.proofs.Card.check_place.Goals as goal
 
@@ -9,7 +8,7 @@ returns-then-setting-cells g c = Unplaceable.wrong_length (λ e. c.if-setting-ce
 pub returns-then-setting-cell : goal.returns-then-setting-cell
 returns-then-setting-cell g c =
     Unplaceable.wrong_position (c.if-setting-cells.false ∙ c.cells-cells.ensures) c.loop-cell.cell
-    (record { inside = omega (arith, c.cells-cells.ensures); outside = omega (arith, c.in-ok-positions.ensures.1); lowest = c.loop-cell.invariant })
+    (record { inside = omega (arith, c.cells-cells.ensures); outside = omega (arith, c.in_ok-positions.ensures.1); lowest = c.loop-cell.invariant })
 
 pub returns-then-input-lines : goal.returns-then-input-lines
 returns-then-input-lines g c =

@@ -1,9 +1,9 @@
-use Rattle.std.proofs.Common.{◌≡◌, sym, refl, ◌∙◌, inl, inr, ⊎_elim, arith, below_more}
+use Rattle.std.proofs.Common.{sym, ◌∙◌, inl, inr, ⊎_elim, arith, below_more}
 use Rattle.std.proofs.lemmas.List.{get_or_default}
 use Rattle.card.specs.Settling.{Unsettleable}
 use Rattle.card.proofs.Pairing.{law_size}
 use Rattle.card.proofs.Card.check_settle.Goals as goal
-use Rattle.card.proofs.Card.check_settle.Goals.{then-lines-via-then-lines, then-lines-via-else-lines+then-holds-cells, then-lines-via-else-lines+else-holds-cells+then-setting-cells, then-hold+in-ok-positions+else-hold-positions, else-hold}
+use Rattle.card.proofs.Card.check_settle.Goals.{then-lines-via-then-lines, then-lines-via-else-lines+then-holds-cells, then-lines-via-else-lines+else-holds-cells+then-setting-cells, then-hold+in_ok-positions+else-hold-positions, else-hold}
 
 pub returns-then-lines : goal.returns-then-lines
 returns-then-lines g c =
@@ -23,7 +23,7 @@ returns-then-hold-positions g c =
     c.loop-cell.cell
     (record {
       inside = omega (arith, c.cells-cells.ensures);
-      outside = ⊎_elim (λ e. c.if-hold.true (d ∙ e)) (λ h. omega (arith, h, d, c.in-ok-positions.ensures.1, c.if-hold-positions.true));
+      outside = ⊎_elim (λ e. c.if-hold.true (d ∙ e)) (λ h. omega (arith, h, d, c.in_ok-positions.ensures.1, c.if-hold-positions.true));
       lowest = c.loop-cell.invariant;
     })
 
@@ -32,7 +32,7 @@ loop-cell-preserved g c =
     let d = get_or_default c.args.holds.now c.loop-cell.cell 0 255 (omega arith) in
     below_more _ _ c.loop-cell.invariant
     (elim c.if-hold.branch [
-      | then-hold+in-ok-positions+else-hold-positions w ↦ inr (omega (arith, d, w.in-ok-positions.ensures.1, w.if-hold-positions.false))
+      | then-hold+in_ok-positions+else-hold-positions w ↦ inr (omega (arith, d, w.in_ok-positions.ensures.1, w.if-hold-positions.false))
       | else-hold w ↦ inl (sym d ∙ w.if-hold.false)
     ])
 

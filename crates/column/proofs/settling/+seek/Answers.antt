@@ -3,7 +3,7 @@ use Rattle.std.proofs.Common.{◌-◌, length, sym, ◌∙◌, arith}
 use Rattle.std.proofs.lemmas.Bool.{eqb-true, eqb-false, true≢false, false≢true}
 use Rattle.column.proofs.Seeking.{seek_none, tried_all, seek_found, seek_unserved, seek_unfit}
 use Rattle.column.proofs.settling.+seek.Goals as goal
-use Rattle.column.proofs.settling.+seek.Goals.{in-Some, in-default·2, in-default}
+use Rattle.column.proofs.settling.+seek.Goals.{in-Some, in_default-2, in_default}
 
 pub returns-then-outputs : goal.returns-then-outputs
 returns-then-outputs g t c =
@@ -24,20 +24,20 @@ returns-then-fits g t c =
           simp w.setting-is
           (seek_found g.F.Leaders.lead c.args.column c.args.outputs c.args.holds.now (length c.args.setting.now - c.args.column) c.loop-position.position
           (omega arith) (omega arith) (omega arith) c.loop-position.invariant w.seek.new.setting w.in-Some.rest (omega arith) w.in-Some.ensures w.if-seek.ensures)
-      | in-default·2 w ↦ absurd (true≢false (sym c.if-fits.true ∙ w.fits-is))
-      | in-default w ↦ absurd (true≢false (sym c.if-fits.true ∙ w.fits-is))
+      | in_default-2 w ↦ absurd (true≢false (sym c.if-fits.true ∙ w.fits-is))
+      | in_default w ↦ absurd (true≢false (sym c.if-fits.true ∙ w.fits-is))
     ]
 
 pub loop-position-preserved : goal.loop-position-preserved
 loop-position-preserved g t c =
     elim c.match-serve.branch [
       | in-Some w ↦ absurd (false≢true (sym c.if-fits.false ∙ w.fits-is))
-      | in-default·2 w ↦
+      | in_default-2 w ↦
           seek_unfit g.F.Leaders.lead c.args.column c.args.outputs c.args.holds.now (length c.args.setting.now - c.args.column) c.loop-position.position
           (omega arith) (omega arith) (omega arith) c.loop-position.invariant w.in-Some.rest w.in-Some.ensures w.if-seek.ensures
-      | in-default w ↦
+      | in_default w ↦
           seek_unserved g.F.Leaders.lead c.args.column c.args.outputs c.args.holds.now (length c.args.setting.now - c.args.column) c.loop-position.position
-          (omega arith) (omega arith) (omega arith) c.loop-position.invariant w.in-default.ensures
+          (omega arith) (omega arith) (omega arith) c.loop-position.invariant w.in_default.ensures
     ]
 
 pub returns : goal.returns

@@ -1,5 +1,5 @@
 -- No line before this one goes to the output; this one does, or is one more that does not.
-use Rattle.std.proofs.Common.{◌≡◌, sym, ◌∙◌, arith, below_more}
+use Rattle.std.proofs.Common.{sym, ◌∙◌, arith, below_more}
 use Rattle.column.proofs.settling.back.Goals as goal
 
 pub loop-line-init : goal.loop-line-init

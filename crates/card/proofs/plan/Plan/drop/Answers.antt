@@ -1,4 +1,4 @@
-use Rattle.std.proofs.Common.{◌≡◌, sym, refl, ◌∙◌, inl, arith}
+use Rattle.std.proofs.Common.{sym, refl, ◌∙◌, inl, arith}
 use mathlib.Core.Logic.{∥∥₁_map}
 use Rattle.card.specs.Plans.{Undroppable}
 use Rattle.card.proofs.Pairing.{law_few, put_law, take_set_below}
@@ -13,8 +13,8 @@ returns-then-output c = record { pairs = (Undroppable.idle_input c.if-input-self
 pub bounds-self-input : goal.bounds-self-input
 bounds-self-input c = omega (arith, law_few c.args.self.now.lawful)
 
-pub invariant-of-self : goal.invariant-of-self
-invariant-of-self c = (∥∥₁_map c.args.self.now.lawful (put_law _ _ c.args.input 255 c.if-input-self.false (inl refl) (λ z. absurd (z refl))), tt)
+pub invariant_of-self : goal.invariant_of-self
+invariant_of-self c = record { lawful = ∥∥₁_map c.args.self.now.lawful (put_law _ _ c.args.input 255 c.if-input-self.false (inl refl) (λ z. absurd (z refl))) }
 
 pub returns : goal.returns
 returns c =

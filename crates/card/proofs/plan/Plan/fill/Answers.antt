@@ -1,6 +1,6 @@
-use Rattle.std.proofs.Common.{◌≡◌, ℕ, ◌<◌, ◌≤◌, length, get_or, take, sym, refl, ◌∙◌, subst, inl, inr, arith, length-set}
+use Rattle.std.proofs.Common.{◌≡◌, ℕ, length, take, sym, refl, ◌∙◌, subst, inl, inr, arith, length-set}
 use Rattle.std.proofs.lemmas.List.{get_or_default, take_all}
-use Rattle.card.specs.Plans.{Unplannable, Taken, Free, Fine}
+use Rattle.card.specs.Plans.{Unplannable, Taken, Free}
 use Rattle.card.proofs.Filling.{filled_law, fill_more, fine_more, taken_part, free_part}
 use Rattle.card.proofs.plan.Plan.fill.Goals as goal
 use Rattle.card.proofs.plan.Plan.fill.Goals.{then-output+else-output-lines+else-used, else-output, then-lines-lt2-via-then-lines-lt2, then-lines-lt2-via-else-lines-lt2+then-lines-gt16}
@@ -43,14 +43,14 @@ loop-i-preserved c =
           ]),
     )
 
-pub invariant-of-self : goal.invariant-of-self
-invariant-of-self c =
-    let end : c.loop-i.i ≡ length c.args.pairs.now = omega arith in (
-      ∣ filled_law (length c.args.pairs.now) c.args.pairs.now c.loop-i.outputs c.if-lines-lt2.false c.if-lines-gt16.false c.loop-i.invariant.0
+pub invariant_of-self : goal.invariant_of-self
+invariant_of-self c =
+    let end : c.loop-i.i ≡ length c.args.pairs.now = omega arith in
+    record {
+      lawful = ∣ filled_law (length c.args.pairs.now) c.args.pairs.now c.loop-i.outputs c.if-lines-lt2.false c.if-lines-gt16.false c.loop-i.invariant.0
           (subst (λ (k : ℕ). take k c.loop-i.outputs ≡ take k c.args.pairs.now) end c.loop-i.invariant.1 ∙ take_all (length c.args.pairs.now) c.args.pairs.now (omega arith))
-          (λ k h. c.loop-i.invariant.2 k (omega arith)) ∣₁,
-      tt,
-    )
+          (λ k h. c.loop-i.invariant.2 k (omega arith)) ∣₁;
+    }
 
 pub returns : goal.returns
 returns c =

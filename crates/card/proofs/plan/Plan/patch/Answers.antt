@@ -1,4 +1,4 @@
-use Rattle.std.proofs.Common.{◌≡◌, sym, refl, ◌∙◌, inr, arith}
+use Rattle.std.proofs.Common.{sym, refl, ◌∙◌, inr, arith}
 use mathlib.Core.Logic.{∥∥₁_map}
 use Rattle.card.specs.Plans.{Unpatchable}
 use Rattle.card.proofs.Pairing.{law_few, put_law, take_set_below}
@@ -19,8 +19,8 @@ returns-then-output c = record { pairs = (Unpatchable.busy_input c.if-input-self
 pub returns-then-taken : goal.returns-then-taken
 returns-then-taken c = record { pairs = (Unpatchable.busy_output c.if-input-self.false c.if-output-self.false (sym c.output.ensures ∙ c.if-output.false) c.if-taken.ensures, refl); lines = refl }
 
-pub invariant-of-self : goal.invariant-of-self
-invariant-of-self c = (∥∥₁_map c.args.self.now.lawful (put_law _ _ c.args.input c.args.output c.if-input-self.false (inr c.if-output-self.false) (λ z. c.if-taken.ensures)), tt)
+pub invariant_of-self : goal.invariant_of-self
+invariant_of-self c = record { lawful = ∥∥₁_map c.args.self.now.lawful (put_law _ _ c.args.input c.args.output c.if-input-self.false (inr c.if-output-self.false) (λ z. c.if-taken.ensures)) }
 
 pub returns : goal.returns
 returns c =

@@ -6,12 +6,12 @@ use Rattle.column.proofs.columns.ColumnCardCard.place.Goals as goal
 
 pub loop-column-init : goal.loop-column-init
 loop-column-init g c =
-    let ok = c.in-ok-check-place.ensures in
+    let ok = c.in_ok-check_place.ensures in
     through_none g.F.Leaders.lead c.args.setting.now (c.args.self.now.lines - 1) c.args.input (omega (arith, ok.lawful.size))
 
 pub loop-column-preserved : goal.loop-column-preserved
 loop-column-preserved g c =
-    let ok = c.in-ok-check-place.ensures in
+    let ok = c.in_ok-check_place.ensures in
     let size = ok.lawful.size in
     let reached = ok.reached in
     c.turn-line.ensures
@@ -20,6 +20,6 @@ loop-column-preserved g c =
 
 pub returns : goal.returns
 returns g c =
-    let ok = c.in-ok-check-place.ensures in
+    let ok = c.in_ok-check_place.ensures in
     let e : c.args.self.now.lines - c.loop-column.column ≡ c.args.self.now.lines - 1 - c.args.passed = omega arith in
     (ok, c.loop-column.invariant ∙ ap (λ (x : ℕ). through g.F.Leaders.lead (drop x c.args.setting.now) c.args.input) e)

@@ -6,26 +6,26 @@ use Rattle.card.proofs.Pairing.{law_size}
 use Rattle.column.proofs.Tabled.{first_in_table, unfit_in_table}
 use Rattle.column.proofs.columns.ColumnCardCard.settle.Goals as goal
 
-pub returns-in-err-check-settle : goal.returns-in-err-check-settle
-returns-in-err-check-settle g c =
-    let p = err_from_is_err_and c.from-residual.result c.from-residual.ensures.1 in
-    rw (p.1, p.2) (Refusal.broken c.in-err-check-settle.ensures, refl {a = c.args.setting.now})
+pub returns-in_err-check_settle : goal.returns-in_err-check_settle
+returns-in_err-check_settle g c =
+    let p = err_from_is_err_and c.from_residual.result c.from_residual.ensures.1 in
+    rw (p.1, p.2) (Refusal.broken c.in_err-check_settle.ensures, refl {a = c.args.setting.now})
 
-pub returns-then-settle-all : goal.returns-then-settle-all
-returns-then-settle-all g c =
-    let ok = c.in-ok-check-settle.ensures in
+pub returns-then-settle_all : goal.returns-then-settle_all
+returns-then-settle_all g c =
+    let ok = c.in_ok-check_settle.ensures in
     let all : c.args.plan.now.lines ≡ suc (c.args.self.now.lines - 1) = omega (arith, law_size c.args.plan.now.lawful, ok.sized.pairs_size) in (
       ok,
       first_in_table g.F.Leaders.lead (c.args.self.now.lines - 1) c.args.plan.now.lines c.args.plan.now.outputs c.args.holds.now
           all
-          c.cells-cells.result c.outputs.result c.settle-all.new.setting c.cells-cells.ensures c.outputs.ensures c.if-settle-all.ensures,
+          c.cells-cells.result c.outputs.result c.settle_all.new.setting c.cells-cells.ensures c.outputs.ensures c.if-settle_all.ensures,
     )
 
-pub returns-else-settle-all : goal.returns-else-settle-all
-returns-else-settle-all g c =
-    let ok = c.in-ok-check-settle.ensures in
+pub returns-else-settle_all : goal.returns-else-settle_all
+returns-else-settle_all g c =
+    let ok = c.in_ok-check_settle.ensures in
     let all : c.args.plan.now.lines ≡ suc (c.args.self.now.lines - 1) = omega (arith, law_size c.args.plan.now.lawful, ok.sized.pairs_size) in
-    let None-found = c.if-settle-all.ensures in (
+    let None-found = c.if-settle_all.ensures in (
       Refusal.no_setting ok (unfit_in_table g.F.Leaders.lead (c.args.self.now.lines - 1) c.args.plan.now.lines c.args.plan.now.outputs c.args.holds.now
           all
           c.cells-cells.result c.outputs.result c.cells-cells.ensures c.outputs.ensures None-found.0),
