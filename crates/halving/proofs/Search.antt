@@ -1,8 +1,8 @@
 -- The search over the first columns of a Beneš card: what a column that fails rules out, and what the first that serves gives.
-use Rattle.std.proofs.Common.{◌≡◌, ℕ, zero, suc, ◌+◌, ◌-◌, ◌*◌, ◌^◌, ◌<◌, ◌≤◌, ◌⊎◌, List, length, get_or, sym, refl, ap, ◌∙◌, subst, subst₂, inl, inr, arith}
+use Rattle.std.proofs.Common.{◌≡◌, ℕ, suc, ◌+◌, ◌-◌, ◌*◌, ◌^◌, ◌<◌, ◌≤◌, ◌⊎◌, List, length, sym, refl, ◌∙◌, subst, subst₂, inl, inr, arith}
 use native.Mathlib.Decide.{dec_le, dec_lt}
 use Rattle.std.specs.List.{between}
-use Rattle.card.specs.Settling.{none, Fits, First, Unfit, Before}
+use Rattle.card.specs.Settling.{Fits, First, Unfit, Before}
 use Rattle.halving.specs.Halving.{lines_at, cells_at, half, benes}
 use Rattle.halving.specs.Outer.{value, Halved, Alike, Front, Foremost, Pairable}
 use Rattle.halving.specs.Counts.{lines_few}

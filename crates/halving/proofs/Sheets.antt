@@ -1,8 +1,8 @@
 -- The place rule as the code has it.
-use Rattle.std.proofs.Common.{◌≡◌, ℕ, zero, suc, ◌+◌, ◌-◌, ◌*◌, ◌/◌, ◌%◌, ◌<◌, ◌≤◌, List, length, get_or, take, drop, sym, refl, ap, ◌∙◌, subst, arith}
+use Rattle.std.proofs.Common.{◌≡◌, ℕ, zero, suc, ◌+◌, ◌-◌, ◌*◌, ◌/◌, ◌%◌, ◌<◌, ◌≤◌, List, get_or, take, drop, sym, refl, ap, ◌∙◌, subst, arith}
 use Rattle.std.specs.List.{between}
 use Rattle.card.specs.Meaning.{Lawful}
-use Rattle.halving.specs.Halving.{lines_at, cells_at, columns_at, half, side, leave, place, halving}
+use Rattle.halving.specs.Halving.{lines_at, cells_at, columns_at, half, side, place, halving}
 use Rattle.halving.specs.Counts.{half_lawful}
 use Rattle.halving.specs.Steps.{place_inside, place_past}
 use Rattle.halving.proofs.Levels.{at_level}

@@ -1,5 +1,5 @@
 -- A plan's pairs are the first entries of its table, so a setting fits the pairs if and only if it fits the table.
-use Rattle.std.proofs.Common.{◌≡◌, ℕ, ◌<◌, ◌⊎◌, List, get_or, sym, ◌∙◌, subst, inl, inr, arith}
+use Rattle.std.proofs.Common.{◌≡◌, ℕ, List, get_or, sym, ◌∙◌, subst, inl, inr, arith}
 use native.Mathlib.Decide.{ℕ_discrete}
 use Rattle.std.proofs.lemmas.List.{get_or-take}
 use Rattle.card.specs.Meaning.{Meaning}

@@ -1,7 +1,7 @@
 -- The counts of a halving card, and its halves as parts of it.
 use Rattle.std.specs.Prelude.{◌≡◌, ℕ, zero, suc, ◌+◌, ◌*◌, ◌<◌, ◌≤◌, ◌⊎◌, List, length, slice_index_or, refl}
-use Rattle.std.proofs.Common.{sym, ◌∙◌, ap, inl, inr, arith, length-take, length-drop, get_or-drop, get_or-take}
-use Rattle.card.specs.Meaning.{Meaning, Lawful}
+use Rattle.std.proofs.Common.{inl, inr, arith, length-take, length-drop, get_or-drop, get_or-take}
+use Rattle.card.specs.Meaning.{Lawful}
 use Rattle.halving.specs.Halving.{lines_at, cells_at, columns_at, half, side, halving}
 
 pub lines_some : (k : ℕ) → 2 ≤ lines_at k

@@ -1,5 +1,5 @@
 -- How a setting of a halving card falls into its outer columns and its two halves.
-use Rattle.std.specs.Prelude.{◌≡◌, ℕ, zero, suc, ◌+◌, ◌*◌, ◌/◌, ◌%◌, ◌<◌, ◌≤◌, Bool, true, false, cond, ◌⊎◌, List, [], ◌∷◌, length, ◌==◌, ◌≢◌, slice_index, slice_index_or}
+use Rattle.std.specs.Prelude.{◌≡◌, ℕ, zero, suc, ◌+◌, ◌*◌, ◌/◌, ◌%◌, ◌<◌, ◌≤◌, Bool, true, false, cond, ◌⊎◌, List, [], ◌∷◌, ◌==◌, ◌≢◌, slice_index, slice_index_or}
 use Rattle.card.specs.Meaning.{Meaning}
 use Rattle.card.specs.Settling.{none, Fits, First, Unfit}
 use Rattle.halving.specs.Halving.{side, halving}

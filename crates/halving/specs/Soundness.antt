@@ -1,11 +1,11 @@
 -- A halving card keeps the rules of every card.
-use Rattle.std.specs.Prelude.{◌≡◌, ℕ, zero, suc, ◌+◌, ◌*◌, ◌/◌, ◌%◌, ◌<◌, ◌≤◌, ◌⊎◌, List, slice_index, refl}
+use Rattle.std.specs.Prelude.{◌≡◌, ℕ, zero, suc, ◌+◌, ◌*◌, ◌/◌, ◌%◌, ◌<◌, ◌≤◌, List, slice_index}
 use Rattle.std.proofs.Math.Path.{sym}
 use Rattle.std.proofs.Common.{◌∙◌, ap, subst, inl, inr}
 use native.Mathlib.Omega.{arith}
 use Rattle.std.proofs.Math.Decide.{dec_le}
 use Rattle.std.proofs.Math.Arith.{digits_div, digits_mod}
-use Rattle.card.specs.Meaning.{Meaning, Lawful, Sound}
+use Rattle.card.specs.Meaning.{Lawful, Sound}
 use Rattle.halving.specs.Halving.{lines_at, columns_at, half, side, leave, place, halving}
 use Rattle.halving.specs.Counts.{lines_some, cells_some, columns_some, lines_few, cells_few, columns_few, bit_cases, half_lawful, side_below}
 use Rattle.halving.specs.Steps.{place_start, place_inside, place_past}

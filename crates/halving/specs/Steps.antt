@@ -1,7 +1,7 @@
 -- The places of a halving card, step by step.
 use Rattle.std.specs.Prelude.{◌≡◌, ℕ, zero, suc, ◌+◌, ◌*◌, ◌/◌, ◌%◌, ◌<◌, ◌≤◌, true, false, cond, not, T, List, ◌≢◌, nat_le, slice_index}
 use Rattle.std.proofs.Math.Path.{refl}
-use Rattle.std.proofs.Common.{sym, ◌∙◌, ap, arith, add-one, le→leb}
+use Rattle.std.proofs.Common.{arith, add-one, le→leb}
 use Rattle.std.proofs.Math.Numerals.{add-two}
 use Rattle.std.proofs.Math.Arith.{lt→nleb}
 use Rattle.halving.specs.Halving.{lines_at, columns_at, half, side, leave, place}

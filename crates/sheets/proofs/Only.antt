@@ -1,10 +1,10 @@
 -- The verdict on a sheet is the only one.
-use Rattle.std.proofs.Common.{◌≡◌, ℕ, ◌<◌, ◌⊎◌, List, get_or, Ok, Err, Result, sym, refl, ap, subst, inl, inr, ⊎_elim, arith}
+use Rattle.std.proofs.Common.{◌≡◌, ℕ, ◌<◌, List, get_or, Ok, Err, Result, sym, refl, ap, subst, ⊎_elim, arith}
 use Rattle.card.specs.declared.fault.Cause.TheVariants.{SheetPosition, SheetHold, SheetPair}
 use Rattle.card.specs.declared.fault.Layer.TheVariants.{Cabinet}
 use Rattle.card.specs.declared.fault.Fault.{Fault}
 use Rattle.card.specs.Faults.{fault}
-use Rattle.card.specs.Meaning.{Meaning, Lawful}
+use Rattle.card.specs.Meaning.{Meaning}
 use Rattle.card.specs.Placing.{Misset}
 use Rattle.card.specs.Settling as settling
 use Rattle.card.specs.Settling.{none, Carries, Keeps, Fits, Before}
@@ -51,7 +51,7 @@ module _ (m : Meaning) (pairs holds sheet : List ℕ) where
   misfits e (Unfitting.wrong_pair l k i a) ok = a.elsewhere (ok.carries i a.inside a.busy)
 
   not_later : settling.First m pairs holds sheet → Later m pairs holds sheet → ⊥
-  not_later f l = ⊎_elim (same f l) (λ b. before_asym sheet l.earlier b l.before) (f.first l.earlier l.earlier-fits)
+  not_later f l = ⊎_elim (same f l) (λ b. before_asym sheet l.earlier b l.before) (f.first l.earlier l.earlier_fits)
     where
       same : settling.First m pairs holds sheet → (l : Later m pairs holds sheet) → l.earlier ≡ sheet → ⊥
       same f l e = let b : Before sheet sheet = subst (λ (x : List ℕ). Before x sheet) e l.before in before_asym sheet sheet b b

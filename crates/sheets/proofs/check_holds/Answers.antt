@@ -1,4 +1,4 @@
-use Rattle.std.proofs.Common.{◌≡◌, sym, ◌∙◌, arith}
+use Rattle.std.proofs.Common.{sym, ◌∙◌, arith}
 use Rattle.sheets.specs.Checking.{Unfitting}
 use Rattle.sheets.proofs.check_holds.Goals as goal
 

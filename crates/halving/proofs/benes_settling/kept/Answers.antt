@@ -1,5 +1,5 @@
 -- One more cell keeps its hold, or does not.
-use Rattle.std.proofs.Common.{◌≡◌, ◌<◌, length, get_or, sym, ap, ◌∙◌, arith, below_more}
+use Rattle.std.proofs.Common.{◌≡◌, get_or, sym, ◌∙◌, arith, below_more}
 use Rattle.std.proofs.lemmas.List.{get_or_default}
 use Rattle.card.specs.Settling.{none}
 use Rattle.halving.proofs.benes_settling.kept.Goals as goal

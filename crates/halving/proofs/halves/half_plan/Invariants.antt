@@ -1,5 +1,5 @@
 -- The lines read so far have their half plan, and the others are idle.
-use Rattle.std.proofs.Common.{◌≡◌, ℕ, ◌<◌, ◌≤◌, List, length, get_or}
+use Rattle.std.proofs.Common.{◌≡◌, ℕ, ◌≤◌, List, length, get_or}
 use Rattle.card.specs.Settling.{none}
 use Rattle.halving.specs.Outer.{Halved}
 use Rattle.halving.proofs.halves.half_plan.Given as goal

@@ -1,5 +1,5 @@
 -- The cell fits, or its hold or one of the pairs rules the position out.
-use Rattle.std.proofs.Common.{◌≡◌, ℕ, ◌+◌, ◌-◌, ◌%◌, get_or, sym, ◌∙◌, arith}
+use Rattle.std.proofs.Common.{◌≡◌, get_or, sym, ◌∙◌, arith}
 use Rattle.std.proofs.lemmas.List.{get_or_default}
 use Rattle.card.specs.Settling.{none}
 use Rattle.halving.proofs.Single.{lone_fits, lone_carries}

@@ -1,5 +1,5 @@
 -- The recursion falls by a level.
 use Rattle.halving.proofs.places.+place_after.Given as goal
 
-abbrev pub decreases-place-after : goal.decreases-place-after
-decreases-place-after l = l.level
+abbrev pub decreases-place_after : goal.decreases-place_after
+decreases-place_after l = l.level

@@ -5,5 +5,5 @@ use Rattle.halving.proofs.sizes.half_columns.Goals as goal
 
 pub returns : goal.returns
 returns c =
-    let e = c.column-count.ensures.count in
-    record { count = e; whole = omega (arith, columns_whole c.args.outer c.args.level (omega arith)); few = c.column-count.ensures.few }
+    let e = c.column_count.ensures.count in
+    record { count = e; whole = omega (arith, columns_whole c.args.outer c.args.level (omega arith)); few = c.column_count.ensures.few }

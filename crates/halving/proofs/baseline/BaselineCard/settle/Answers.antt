@@ -1,5 +1,5 @@
 -- What the checks and the search found, as settling answers it.
-use Rattle.std.proofs.Common.{◌≡◌, sym, refl, ◌∙◌, arith, length-take}
+use Rattle.std.proofs.Common.{refl, arith, length-take}
 use Rattle.std.proofs.lemmas.Result.{err_from_is_err_and}
 use Rattle.card.specs.Settling.{Refusal}
 use Rattle.halving.specs.Halving.{lines_at, baseline}
@@ -7,17 +7,17 @@ use Rattle.halving.specs.Counts.{cells_few}
 use Rattle.halving.proofs.Tabled.{first_in_table, unfit_in_table, lines_are, table_pairable}
 use Rattle.halving.proofs.baseline.BaselineCard.settle.Goals as goal
 
-pub returns-in-err-check-settle : goal.returns-in-err-check-settle
-returns-in-err-check-settle c =
-    let p = err_from_is_err_and c.from-residual.result c.from-residual.ensures.1 in
-    rw (p.1, p.2) (Refusal.broken c.in-err-check-settle.ensures, refl {a = c.args.setting.now})
+pub returns-in_err-check_settle : goal.returns-in_err-check_settle
+returns-in_err-check_settle c =
+    let p = err_from_is_err_and c.from_residual.result c.from_residual.ensures.1 in
+    rw (p.1, p.2) (Refusal.broken c.in_err-check_settle.ensures, refl {a = c.args.setting.now})
 
-pub slice-bounds-scratch-end : goal.slice-bounds-scratch-end
-slice-bounds-scratch-end c = omega (arith, c.cells.ensures, c.room-scratch.ensures, cells_few 1 c.args.self.now.level (omega arith) c.args.self.now.small)
+pub slice_bounds-scratch-end : goal.slice_bounds-scratch-end
+slice_bounds-scratch-end c = omega (arith, c.cells.ensures, c.room-scratch.ensures, cells_few 1 c.args.self.now.level (omega arith) c.args.self.now.small)
 
-pub settle-all-requires : goal.settle-all-requires
-settle-all-requires c =
-    let ok = c.in-ok-check-settle.ensures in
+pub settle_all-requires : goal.settle_all-requires
+settle_all-requires c =
+    let ok = c.in_ok-check_settle.ensures in
     let few = cells_few 1 c.args.self.now.level (omega arith) c.args.self.now.small in
     record {
       small = c.args.self.now.small;
@@ -29,15 +29,15 @@ settle-all-requires c =
       holding = ok.holdable;
     }
 
-pub returns-then-settle-all : goal.returns-then-settle-all
-returns-then-settle-all c =
-    let ok = c.in-ok-check-settle.ensures in
+pub returns-then-settle_all : goal.returns-then-settle_all
+returns-then-settle_all c =
+    let ok = c.in_ok-check_settle.ensures in
     let all = lines_are (baseline c.args.self.now.level) c.args.plan.now.lines c.args.plan.now.outputs c.args.holds.now c.args.setting.now c.args.plan.now.lawful ok in
-    (ok, first_in_table (baseline c.args.self.now.level) c.args.plan.now.lines c.args.plan.now.outputs c.args.holds.now all c.outputs.result c.settle-all.new.setting c.outputs.ensures c.if-settle-all.ensures)
+    (ok, first_in_table (baseline c.args.self.now.level) c.args.plan.now.lines c.args.plan.now.outputs c.args.holds.now all c.outputs.result c.settle_all.new.setting c.outputs.ensures c.if-settle_all.ensures)
 
-pub returns-else-settle-all : goal.returns-else-settle-all
-returns-else-settle-all c =
-    let ok = c.in-ok-check-settle.ensures in
+pub returns-else-settle_all : goal.returns-else-settle_all
+returns-else-settle_all c =
+    let ok = c.in_ok-check_settle.ensures in
     let all = lines_are (baseline c.args.self.now.level) c.args.plan.now.lines c.args.plan.now.outputs c.args.holds.now c.args.setting.now c.args.plan.now.lawful ok in
-    let None-found = c.if-settle-all.ensures in
+    let None-found = c.if-settle_all.ensures in
     (Refusal.no_setting ok (unfit_in_table (baseline c.args.self.now.level) c.args.plan.now.lines c.args.plan.now.outputs c.args.holds.now all c.outputs.result c.outputs.ensures None-found.0), None-found.1)
