@@ -1,13 +1,13 @@
 -- Beside the standing setting of any log, the check gives the one verdict.
-use Rattle.std.proofs.Common.{◌≡◌, ℕ, List, Result, subst}
+use Rattle.std.proofs.Common.{ℕ, List, Result, subst}
 use Rattle.card.specs.declared.fault.Fault.{Fault}
 use Rattle.card.specs.Meaning.{Meaning, Sound}
 use Rattle.sheets.specs.declared.Verdict.{Verdict}
 use Rattle.sheets.specs.Checking.{Compared, VerdictOn}
 use Rattle.sheets.specs.Sole.{Sole}
 use Rattle.sheets.proofs.Only.{the_verdict}
-use Rattle.cabinet.specs.Orders.{Force, in_force}
-use Rattle.cabinet.specs.Logs.{Standing, Log}
+use Rattle.cabinet.specs.Orders.{Force}
+use Rattle.cabinet.specs.Logs.{Standing}
 use Rattle.cabinet.specs.Checking.{Checked}
 use Rattle.cabinet.proofs.Steady.{ready, forced}
 

@@ -1,5 +1,5 @@
 -- From what a card settles in the part of a buffer that it has cells for, to what then stands in the cabinet.
-use Rattle.std.proofs.Common.{◌≡◌, ℕ, ◌+◌, ◌<◌, ◌≤◌, cond, eqb, List, ◌++◌, length, get_or, take, Ok, Err, sym, refl, ap, ◌∙◌, subst, add-one, arith, eq-eqb, ne_eqb}
+use Rattle.std.proofs.Common.{◌≡◌, ℕ, ◌+◌, ◌≤◌, List, ◌++◌, length, get_or, take, Err, refl, ◌∙◌, subst, add-one, arith, eq-eqb, ne_eqb}
 use Rattle.std.proofs.lemmas.List.{take_at, length-take-le}
 use Rattle.card.specs.declared.fault.Fault.{Fault}
 use Rattle.card.specs.Meaning.{Meaning}

@@ -1,19 +1,19 @@
 -- The rows of commands, one after another.
-use Rattle.std.proofs.Common.{◌≡◌, ℕ, ◌+◌, ◌-◌, ◌<◌, ◌≤◌, List, [], ◌∷◌, ◌++◌, length, get_or, take, drop, replicate, Ok, Err, Result, sym, refl, ap, ◌∙◌, subst, arith, Bor}
-use Rattle.std.proofs.lemmas.List.{length-take-le, take_more, take_all}
+use Rattle.std.proofs.Common.{◌≡◌, ℕ, ◌+◌, ◌<◌, List, [], ◌∷◌, ◌++◌, length, get_or, take, Ok, Err, Result, sym, refl, ap, ◌∙◌, subst, arith, Bor}
+use Rattle.std.proofs.lemmas.List.{length-take-le, take_more}
 use Rattle.card.specs.declared.fault.Fault.{Fault}
 use Rattle.card.specs.Meaning.{Meaning, Sound}
 use Rattle.payload.specs.declared.Frame.{Frame}
 use Rattle.payload.specs.Silence.{quiet_number, quiet_frame}
 use Rattle.cabinet.specs.declared.Cabinet.{Cabinet}
 use Rattle.cabinet.specs.declared.command.Command.{Command}
-use Rattle.cabinet.specs.declared.command.Command.TheVariants.{Plan, Patch, Drop, Hold, Release, RingOut, Voice}
+use Rattle.cabinet.specs.declared.command.Command.TheVariants.{RingOut, Voice}
 use Rattle.cabinet.specs.declared.command.Reply.{Reply}
 use Rattle.cabinet.specs.declared.command.Reply.TheVariants.{Moved, Numbers, Frames}
 use Rattle.cabinet.specs.Orders.{Order, Row}
 use Rattle.cabinet.specs.Logs.{Standing, Log}
 use Rattle.cabinet.specs.Telling.{FollowsCarry}
-use Rattle.cabinet.specs.Carrying.{Went, CarriedOut}
+use Rattle.cabinet.specs.Carrying.{CarriedOut}
 use Rattle.cabinet.specs.States.{standing, Ordered}
 use Rattle.cabinet.specs.Serving.{numbers, Ordering, Entry, Obeyed, Entered, Served}
 use Rattle.cabinet.proofs.Steady.{throughout}

@@ -11,7 +11,7 @@ use Rattle.cabinet.specs.Orders.{Row, in_force}
 use Rattle.cabinet.specs.Logs.{Standing, Log, Ends, Routed}
 use Rattle.cabinet.specs.Telling.{Inverted}
 use Rattle.cabinet.specs.Carrying.{Sent, Arrived}
-use Rattle.cabinet.proofs.Steady.{same_routes, routed_pairs}
+use Rattle.cabinet.proofs.Steady.{same_routes}
 
 -- the inputs below n are in the table where they end
 pub record SoFar (m : Meaning) (s : Standing) (n : ℕ) (table : List ℕ) : Type 0 where

@@ -1,13 +1,12 @@
 -- After a log each order and each carry has one answer, and leaves one standing setting.
-use Rattle.std.proofs.Common.{◌≡◌, ℕ, ◌<◌, ◌≤◌, List, [], ◌∷◌, length, get_or, Ok, Err, Result, sym, refl, ap, ◌∙◌, subst, arith}
+use Rattle.std.proofs.Common.{◌≡◌, ℕ, List, ◌∷◌, Ok, Err, Result, sym, refl, ap, ◌∙◌, subst, arith}
 use Rattle.card.specs.declared.fault.Fault.{Fault}
 use Rattle.card.specs.Meaning.{Meaning, Sound}
-use Rattle.card.specs.Settling.{none}
 use Rattle.card.specs.Plans.{Unpatchable, Undroppable}
 use Rattle.card.proofs.Firsts.{first_same}
 use Rattle.card.proofs.One.{same_self, plan_one}
-use Rattle.cabinet.specs.Orders.{Order, Force, Row, wanted, in_force, Clear, Broken, Carriable, UnholdableAt, Unreleasable}
-use Rattle.cabinet.specs.Logs.{Standing, placed, Call, Done, Refused, Routed, Carry, Log, moved}
+use Rattle.cabinet.specs.Orders.{Order, Force, Row, wanted, in_force, Broken, UnholdableAt, Unreleasable}
+use Rattle.cabinet.specs.Logs.{Standing, placed, Call, Done, Refused, Log, moved}
 use Rattle.cabinet.proofs.Steady.{Steady, steady, modest, clash, answered_unfit, same_routes}
 
 -- two standings with the same parts

@@ -1,5 +1,5 @@
 -- What holds at the end of every log, and so what every log tells.
-use Rattle.std.proofs.Common.{◌≡◌, ℕ, zero, suc, ◌<◌, ◌≤◌, ◌⊎◌, List, [], ◌∷◌, length, get_or, take, set, replicate, Ok, Err, Result, sym, refl, ap, ◌∙◌, subst, inl, inr, ⊎_elim, arith, length-set}
+use Rattle.std.proofs.Common.{◌≡◌, ℕ, zero, suc, ◌<◌, ◌≤◌, ◌⊎◌, List, [], ◌∷◌, length, get_or, set, replicate, Ok, Err, Result, sym, refl, ap, ◌∙◌, subst, inl, inr, ⊎_elim, arith, length-set}
 use lib.ListN.{length-replicate, get_or-replicate}
 use Rattle.std.proofs.lemmas.List.{get_or-set_same, get_or-set_other, ext_get_or}
 use Rattle.std.proofs.lemmas.Bool.{cases_eq, cases_lt}
@@ -9,12 +9,12 @@ use Rattle.card.specs.declared.fault.Fault.{Fault}
 use Rattle.card.specs.Faults.{fault}
 use Rattle.card.specs.Meaning.{Meaning, Sound, Same}
 use Rattle.card.specs.Settling.{none, Fits, First, Holdable, Settleable, Settled}
-use Rattle.card.specs.Plans.{Taken, Plannable, Unplannable, Fine, Free, Patchable, Unpatchable, Droppable, Undroppable}
+use Rattle.card.specs.Plans.{Taken, Free, Patchable, Unpatchable, Droppable, Undroppable}
 use Rattle.card.proofs.Pairing.{blank}
 use Rattle.card.proofs.Firsts.{first_same, zeros_first, refused_unfit}
 use Rattle.card.proofs.One.{plan_clash}
 use Rattle.cabinet.specs.Orders.{Order, Force, Row, wanted, after, in_force, idle, Clear, Broken, stuck, Carriable, HoldableAt, UnholdableAt, Releasable, Unreleasable}
-use Rattle.cabinet.specs.Logs.{Standing, Answered, placed, Call, Done, Refused, Routed, Carry, Log, moved}
+use Rattle.cabinet.specs.Logs.{Standing, Answered, placed, Call, Refused, Routed, Carry, Log, moved}
 use Rattle.cabinet.specs.Telling.{NothingFits, Judged, Inverted, Delivered, Told, Agree, Matched, ToldAt, Throughout, Follows, FollowsCarry}
 use Rattle.cabinet.specs.States.{Settles, Settling, Ready}
 

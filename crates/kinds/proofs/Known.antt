@@ -1,5 +1,5 @@
 -- Which kinds are known, and with how many lines.
-use Rattle.std.proofs.Common.{◌≡◌, ℕ, ◌+◌, ◌-◌, ◌<◌, ◌≤◌, sym, refl, ◌∙◌, subst, arith}
+use Rattle.std.proofs.Common.{◌≡◌, ℕ, ◌-◌, ◌<◌, ◌≤◌, refl, subst, arith}
 use Rattle.card.specs.Meaning.{Meaning}
 use Rattle.column.specs.Building.{Buildable}
 use Rattle.column.specs.Families.{klw, bbc}

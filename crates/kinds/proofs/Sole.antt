@@ -1,5 +1,5 @@
 -- A kind number and a line count mean one card at most.
-use Rattle.std.proofs.Common.{◌≡◌, ℕ, zero, suc, ◌+◌, ◌≤◌, sym, refl, ap, ◌∙◌, subst, arith}
+use Rattle.std.proofs.Common.{◌≡◌, ℕ, zero, suc, sym, refl, ap, ◌∙◌, arith}
 use Rattle.card.specs.Meaning.{Meaning}
 use Rattle.halving.specs.Halving.{lines_at, benes, baseline}
 use Rattle.turned.specs.Turning.{turned_meaning}

@@ -1,12 +1,12 @@
 -- What the ways through the reader come to.
-use Rattle.std.proofs.Common.{◌≡◌, ℕ, ◌+◌, ◌-◌, ◌<◌, ◌≤◌, List, [], ◌∷◌, ◌++◌, length, get_or, take, drop, sym, refl, ap, ◌∙◌, subst, append_assoc, arith, length-drop, take-append-drop}
+use Rattle.std.proofs.Common.{◌≡◌, ℕ, ◌+◌, ◌-◌, ◌<◌, ◌≤◌, List, [], ◌∷◌, ◌++◌, length, get_or, take, drop, sym, ap, ◌∙◌, subst, append_assoc, arith, length-drop, take-append-drop}
 use Rattle.std.proofs.lemmas.List.{take_rest, nil_from_length}
 use Rattle.card.specs.declared.fault.Cause.TheVariants.{BadMark, CutShort}
 use Rattle.card.specs.declared.fault.Layer.TheVariants.{Record}
 use Rattle.card.specs.Faults.{fault}
 use Rattle.records.specs.declared.order.Mark.{Mark}
-use Rattle.records.specs.Format.{Image, table, Stands, mark_of, body_of, of_body, Lines, Proper}
-use Rattle.records.specs.Reading.{Begins, found, end, refused, Reads, at_end, unmarked, cut, whole}
+use Rattle.records.specs.Format.{Image, table, Stands, mark_of, body_of, of_body, Lines}
+use Rattle.records.specs.Reading.{found, end, refused, Reads, at_end, unmarked, cut, whole}
 use Rattle.records.proofs.Laws.{of_body_mark, of_body_body, letters_apart, first_two}
 
 pub reads_end : (n : ℕ) (bs : List ℕ) → Lines n → length bs ≡ 0 → Reads n bs end

@@ -1,4 +1,4 @@
-use Rattle.std.proofs.Common.{◌≡◌, ℕ, ◌<◌, ◌≤◌, List, length, get_or, take, Ok, Err, sym, refl, ap, ◌∙◌, subst, arith, rules}
+use Rattle.std.proofs.Common.{◌≡◌, length, get_or, take, Err, sym, refl, ◌∙◌, arith, rules}
 use Rattle.std.proofs.lemmas.Result.{err_from_is_err_and}
 use Rattle.card.specs.declared.fault.Cause.TheVariants.{WrongLength}
 use Rattle.card.specs.declared.fault.Layer.TheVariants.{Cabinet}
@@ -25,19 +25,19 @@ returns-then-given-lines g c = (
       )),
 )
 
-pub returns-in-err-route : goal.returns-in-err-route
-returns-in-err-route g c =
-    let p = err_from_is_err_and c.from-residual.result c.from-residual.ensures.1 in
+pub returns-in_err-route : goal.returns-in_err-route
+returns-in_err-route g c =
+    let p = err_from_is_err_and c.from_residual.result c.from_residual.ensures.1 in
     rw p.1 (
       refl,
-      follow_carry (g.C.Card.meaning c.args.self.now.card) (g.met.C.Card.sound c.args.self.now.card) (standing (g.C.Card.meaning c.args.self.now.card) c.args.self.now.state) (length c.args.given.now) (length c.args.out.now) (Err p.0) (λ r. absurd (c.in-err-route.ensures r)),
+      follow_carry (g.C.Card.meaning c.args.self.now.card) (g.met.C.Card.sound c.args.self.now.card) (standing (g.C.Card.meaning c.args.self.now.card) c.args.self.now.state) (length c.args.given.now) (length c.args.out.now) (Err p.0) (λ r. absurd (c.in_err-route.ensures r)),
     )
 
 pub loop-output-init : goal.loop-output-init
 loop-output-init g c = λ o h. absurd (omega arith)
 
 pub loop-output-preserved : goal.loop-output-preserved
-loop-output-preserved g c = written c.loop-output.out c.loop-output.output c.sent.result g.P.Payload.silent (λ o p. p ≡ get_or c.args.given.now (get_or c.in-ok-route.route o 0) g.P.Payload.silent) (omega (arith, c.loop-output.auto.out)) c.loop-output.invariant c.sent.ensures
+loop-output-preserved g c = written c.loop-output.out c.loop-output.output c.sent.result g.P.Payload.silent (λ o p. p ≡ get_or c.args.given.now (get_or c.in_ok-route.route o 0) g.P.Payload.silent) (omega (arith, c.loop-output.auto.out)) c.loop-output.invariant c.sent.ensures
 
 pub returns : goal.returns
 returns g c =
@@ -46,12 +46,12 @@ returns g c =
     let s = standing (g.C.Card.meaning c.args.self.now.card) c.args.self.now.state in
     let size : length c.args.given.now ≡ (g.C.Card.meaning c.args.self.now.card).lines = c.if-given-lines.false ∙ c.lines-lines.ensures in
     let filled : length c.args.out.now ≡ (g.C.Card.meaning c.args.self.now.card).lines = c.if-out-lines.false ∙ c.lines-lines.ensures in
-    let wide : length c.in-ok-route.route ≡ 16 = search rules in
-    let sent : Sent g.P.Payload.silent c.args.given.now (take (g.C.Card.meaning c.args.self.now.card).lines c.in-ok-route.route) c.loop-output.out = sending g.P.Payload.silent c.args.given.now c.loop-output.out c.in-ok-route.route (g.C.Card.meaning c.args.self.now.card).lines sound.few_lines size (c.loop-output.auto.out ∙ filled) wide (λ o h. c.loop-output.invariant o (omega (arith, c.loop-output-test.false, c.lines-lines.ensures))) in
+    let wide : length c.in_ok-route.route ≡ 16 = search rules in
+    let sent : Sent g.P.Payload.silent c.args.given.now (take (g.C.Card.meaning c.args.self.now.card).lines c.in_ok-route.route) c.loop-output.out = sending g.P.Payload.silent c.args.given.now c.loop-output.out c.in_ok-route.route (g.C.Card.meaning c.args.self.now.card).lines sound.few_lines size (c.loop-output.auto.out ∙ filled) wide (λ o h. c.loop-output.invariant o (omega (arith, c.loop-output-test.false, c.lines-lines.ensures))) in
     record {
-      route = take (g.C.Card.meaning c.args.self.now.card).lines c.in-ok-route.route;
+      route = take (g.C.Card.meaning c.args.self.now.card).lines c.in_ok-route.route;
       sent = sent;
-      log = follow_carry m sound s (length c.args.given.now) (length c.args.out.now) _ (λ r. (record { given = size; filled = filled }, c.in-ok-route.ensures r, refl));
-      arrived = λ rows log. arriving g.P.Payload.silent (g.C.Card.meaning c.args.self.now.card).lines _ _ c.args.given.now c.loop-output.out sound.few_lines (routed_pairs m sound rows s log _ (c.in-ok-route.ensures (ready m sound rows s log))) sent;
-      same = λ rows log. same_outputs g.P.Payload.silent m sound s c.args.given.now c.loop-output.out _ (c.in-ok-route.ensures (ready m sound rows s log)) sent rows log;
+      log = follow_carry m sound s (length c.args.given.now) (length c.args.out.now) _ (λ r. (record { given = size; filled = filled }, c.in_ok-route.ensures r, refl));
+      arrived = λ rows log. arriving g.P.Payload.silent (g.C.Card.meaning c.args.self.now.card).lines _ _ c.args.given.now c.loop-output.out sound.few_lines (routed_pairs m sound rows s log _ (c.in_ok-route.ensures (ready m sound rows s log))) sent;
+      same = λ rows log. same_outputs g.P.Payload.silent m sound s c.args.given.now c.loop-output.out _ (c.in_ok-route.ensures (ready m sound rows s log)) sent rows log;
     }

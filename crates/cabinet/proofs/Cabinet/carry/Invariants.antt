@@ -1,4 +1,4 @@
-use Rattle.std.proofs.Common.{◌≡◌, ℕ, ◌<◌, length, get_or}
+use Rattle.std.proofs.Common.{◌≡◌, ℕ, ◌<◌, get_or}
 use Rattle.cabinet.proofs.Cabinet.carry.Given as goal
 
 abbrev pub invariant-loop-output : goal.invariant-loop-output

@@ -1,13 +1,12 @@
-use Rattle.std.proofs.Common.{◌≡◌, ℕ, ◌<◌, ◌≤◌, List, length, get_or, take, set, sym, refl, ap, ◌∙◌, subst, arith}
-use Rattle.card.specs.Settling.{none}
+use Rattle.std.proofs.Common.{ℕ, List, set, sym, refl, ap, ◌∙◌, arith}
 use Rattle.card.specs.PlanPairs.{pairs_of}
 use Rattle.card.proofs.Pairing.{take_set_below}
-use Rattle.cabinet.specs.Orders.{Order, HoldableAt, UnholdableAt}
+use Rattle.cabinet.specs.Orders.{Order, UnholdableAt}
 use Rattle.cabinet.proofs.Calls.{held_at, order_broken, order_done, order_unsettled}
 use Rattle.cabinet.proofs.Cabinet.hold.Goals as goal
 
-pub returns-in-default : goal.returns-in-default
-returns-in-default g c = order_broken g.C.Card.meaning g.met.C.Card.sound c.args.self.now (Order.hold c.args.cell c.args.position) _ (λ r. UnholdableAt.no_cell c.in-default.ensures.0)
+pub returns-in_default : goal.returns-in_default
+returns-in_default g c = order_broken g.C.Card.meaning g.met.C.Card.sound c.args.self.now (Order.hold c.args.cell c.args.position) _ (λ r. UnholdableAt.no_cell c.in_default.ensures.0)
 
 pub returns-then-position-positions : goal.returns-then-position-positions
 returns-then-position-positions g c =

@@ -1,9 +1,9 @@
-use Rattle.std.proofs.Common.{◌≡◌, ℕ, ◌<◌, ◌≤◌, List, length, take, sym, refl, ap, ◌∙◌, subst, arith}
+use Rattle.std.proofs.Common.{◌≡◌, ℕ, ◌<◌, List, length, take, sym, refl, ap, ◌∙◌, subst, arith}
 use Rattle.std.proofs.lemmas.Result.{err_from_is_err_and}
 use Rattle.card.specs.declared.fault.Fault.{Fault}
 use Rattle.card.specs.Meaning.{Meaning, Sound}
 use Rattle.card.specs.Plans.{Lines, Plannable, Unplannable, Fine}
-use Rattle.cabinet.specs.Orders.{Order, Force}
+use Rattle.cabinet.specs.Orders.{Order}
 use Rattle.cabinet.proofs.Calls.{order_broken, order_done, order_unsettled}
 use Rattle.cabinet.proofs.Cabinet.plan.Goals as goal
 
@@ -25,25 +25,25 @@ module _ (m : Meaning) (sound : Sound m) (ps : List ℕ) (size : length ps ≡ m
 pub returns-then-pairs-lines : goal.returns-then-pairs-lines
 returns-then-pairs-lines g c = order_broken g.C.Card.meaning g.met.C.Card.sound c.args.self.now (Order.plan c.args.pairs.now) _ (λ r. Unplannable.wrong_length (λ z. c.if-pairs-lines.true (z ∙ sym c.lines.ensures)))
 
-pub returns-in-err-fill : goal.returns-in-err-fill
-returns-in-err-fill g c =
-    let p = err_from_is_err_and c.from-residual.result c.from-residual.ensures.1 in
+pub returns-in_err-fill : goal.returns-in_err-fill
+returns-in_err-fill g c =
+    let p = err_from_is_err_and c.from_residual.result c.from_residual.ensures.1 in
     rw (p.1, p.2)
-    (order_broken g.C.Card.meaning g.met.C.Card.sound c.args.self.now (Order.plan c.args.pairs.now) c.in-err-fill.field-0.0
-    (λ r. wrong (g.C.Card.meaning c.args.self.now.card) (g.met.C.Card.sound c.args.self.now.card) c.args.pairs.now (c.if-pairs-lines.false ∙ c.lines.ensures) c.in-err-fill.field-0.0 c.in-err-fill.ensures.0))
+    (order_broken g.C.Card.meaning g.met.C.Card.sound c.args.self.now (Order.plan c.args.pairs.now) c.in_err-fill.field-0.0
+    (λ r. wrong (g.C.Card.meaning c.args.self.now.card) (g.met.C.Card.sound c.args.self.now.card) c.args.pairs.now (c.if-pairs-lines.false ∙ c.lines.ensures) c.in_err-fill.field-0.0 c.in_err-fill.ensures.0))
 
-pub returns-in-err-done : goal.returns-in-err-done
-returns-in-err-done g c =
-    let p = err_from_is_err_and c.from-residual-in-err-done.result c.from-residual-in-err-done.ensures.1 in
+pub returns-in_err-done : goal.returns-in_err-done
+returns-in_err-done g c =
+    let p = err_from_is_err_and c.from_residual-in_err-done.result c.from_residual-in_err-done.ensures.1 in
     rw (p.1, p.2)
     (order_unsettled g.C.Card.meaning g.met.C.Card.sound c.args.self.now (Order.plan c.args.pairs.now) (record { plan = c.fill.new.self; holds = c.args.self.now.state.holds; setting = c.args.self.now.state.setting })
-    (ap (λ (x : List ℕ). record { pairs = x; holds = take (g.C.Card.meaning c.args.self.now.card).cells c.args.self.now.state.holds }) c.in-ok-fill.ensures.1)
-    (λ r. right (g.C.Card.meaning c.args.self.now.card) (g.met.C.Card.sound c.args.self.now.card) c.args.pairs.now (c.if-pairs-lines.false ∙ c.lines.ensures) c.in-ok-fill.ensures.0)
-    refl c.in-err-done.field-0.0 c.in-err-done.field-0.0 refl c.in-err-done.ensures)
+    (ap (λ (x : List ℕ). record { pairs = x; holds = take (g.C.Card.meaning c.args.self.now.card).cells c.args.self.now.state.holds }) c.in_ok-fill.ensures.1)
+    (λ r. right (g.C.Card.meaning c.args.self.now.card) (g.met.C.Card.sound c.args.self.now.card) c.args.pairs.now (c.if-pairs-lines.false ∙ c.lines.ensures) c.in_ok-fill.ensures.0)
+    refl c.in_err-done.field-0.0 c.in_err-done.field-0.0 refl c.in_err-done.ensures)
 
 pub returns : goal.returns
 returns g c =
     order_done g.C.Card.meaning g.met.C.Card.sound c.args.self.now (Order.plan c.args.pairs.now) (record { plan = c.fill.new.self; holds = c.args.self.now.state.holds; setting = c.args.self.now.state.setting })
-    (ap (λ (x : List ℕ). record { pairs = x; holds = take (g.C.Card.meaning c.args.self.now.card).cells c.args.self.now.state.holds }) c.in-ok-fill.ensures.1)
-    (λ r. right (g.C.Card.meaning c.args.self.now.card) (g.met.C.Card.sound c.args.self.now.card) c.args.pairs.now (c.if-pairs-lines.false ∙ c.lines.ensures) c.in-ok-fill.ensures.0)
-    refl c.in-ok-done.done c.in-ok-done.ensures
+    (ap (λ (x : List ℕ). record { pairs = x; holds = take (g.C.Card.meaning c.args.self.now.card).cells c.args.self.now.state.holds }) c.in_ok-fill.ensures.1)
+    (λ r. right (g.C.Card.meaning c.args.self.now.card) (g.met.C.Card.sound c.args.self.now.card) c.args.pairs.now (c.if-pairs-lines.false ∙ c.lines.ensures) c.in_ok-fill.ensures.0)
+    refl c.in_ok-done.done c.in_ok-done.ensures

@@ -5,4 +5,4 @@ use Rattle.cabinet.proofs.Cabinet.voice.Goals as goal
 
 pub returns : goal.returns
 returns g c =
-    tabled quiet_frame c.silence-table.result (g.C.Card.meaning c.args.self.now.card) (standing (g.C.Card.meaning c.args.self.now.card) c.args.self.now.state) c.args.frames.now c.carry-front.new.table c.silence-table.ensures c.in-ok-carry-front.ensures
+    tabled quiet_frame c.silence-table.result (g.C.Card.meaning c.args.self.now.card) (standing (g.C.Card.meaning c.args.self.now.card) c.args.self.now.state) c.args.frames.now c.carry_front.new.table c.silence-table.ensures c.in_ok-carry_front.ensures

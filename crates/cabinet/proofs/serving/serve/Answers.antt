@@ -18,7 +18,7 @@ loop-command-init g c =
 
 pub loop-command-preserved : goal.loop-command-preserved
 loop-command-preserved g c =
-    gone_on_at g.C.Card.meaning c.commission-cabinet.result.card _ c.args.commands.now c.loop-command.command-index c.loop-command-test.true (vec_items c.loop-command.replies) (vec_items c.push.new.self) c.obey-reply.result c.in-ok-push.ensures.items c.loop-command.cabinet c.obey-reply.new.self c.loop-command.invariant c.obey-reply.ensures
+    gone_on_at g.C.Card.meaning c.commission-cabinet.result.card _ c.args.commands.now c.loop-command.command-index c.loop-command-test.true (vec_items c.loop-command.replies) (vec_items c.push.new.self) c.obey-reply.result c.in_ok-push.ensures.items c.loop-command.cabinet c.obey-reply.new.self c.loop-command.invariant c.obey-reply.ensures
 
 pub returns : goal.returns
 returns g c =

@@ -7,5 +7,5 @@ use Rattle.records.proofs.frame.encode.Goals as goal
 pub returns : goal.returns
 returns c =
     let t : Typed c.args.frame = search rules in
-    let value = encoded c.args.frame _ _ _ _ _ t c.count-to.ensures c.sample-to.ensures c.sample-to-2.ensures c.sample-to-3.ensures c.sample-to-4.ensures in
+    let value = encoded c.args.frame _ _ _ _ _ t c.count_to.ensures c.sample_to.ensures c.sample_to-2.ensures c.sample_to-3.ensures c.sample_to-4.ensures in
     record { typed = t; value = value; only = λ f u e. same_frame f c.args.frame u t (e ∙ value) }

@@ -12,15 +12,15 @@ returns-then-lines-eq1 c = recorded (bad_count (no_lines c.args.lines c.then-lin
 pub returns-then-not-stands : goal.returns-then-not-stands
 returns-then-not-stands c = recorded (writes_misplaced _ _ _ (lines_else _ c.if-lines-eq1.false c.if-lines-gt16.false) _ c.mark-mark.ensures c.if-not-stands.ensures)
 
-pub returns-then-held-body-length : goal.returns-then-held-body-length
-returns-then-held-body-length c = recorded (writes_missized _ _ _ (lines_else _ c.if-lines-eq1.false c.if-lines-gt16.false) _ c.mark-mark.ensures c.if-not-stands.ensures
-    _ c.body-length-held.ensures (λ e. c.if-held-body-length.true (e ∙ sym c.body-length.ensures)))
+pub returns-then-held-body_length : goal.returns-then-held-body_length
+returns-then-held-body_length c = recorded (writes_missized _ _ _ (lines_else _ c.if-lines-eq1.false c.if-lines-gt16.false) _ c.mark-mark.ensures c.if-not-stands.ensures
+    _ c.body_length-held.ensures (λ e. c.if-held-body_length.true (e ∙ sym c.body_length.ensures)))
 
 pub returns-then-buffer-held : goal.returns-then-buffer-held
 returns-then-buffer-held c = recorded (writes_short _ _ _ (lines_else _ c.if-lines-eq1.false c.if-lines-gt16.false) _ c.mark-mark.ensures c.if-not-stands.ensures
-    _ c.body-length-held.ensures (c.if-held-body-length.false ∙ c.body-length.ensures) c.if-buffer-held.true)
+    _ c.body_length-held.ensures (c.if-held-body_length.false ∙ c.body_length.ensures) c.if-buffer-held.true)
 
 pub returns : goal.returns
 returns c = recorded (writes_done _ _ _ (lines_else _ c.if-lines-eq1.false c.if-lines-gt16.false) _ c.mark-mark.ensures c.if-not-stands.ensures
-    _ c.body-length-held.ensures (c.if-held-body-length.false ∙ c.body-length.ensures)
-    _ _ c.if-buffer-held.false (c.copy-from-slice.ensures.after ∙ c.letters.ensures) c.put-body.ensures)
+    _ c.body_length-held.ensures (c.if-held-body_length.false ∙ c.body_length.ensures)
+    _ _ c.if-buffer-held.false (c.copy_from_slice.ensures.after ∙ c.letters.ensures) c.put_body.ensures)
