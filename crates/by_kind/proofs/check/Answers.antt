@@ -9,42 +9,42 @@ use Rattle.by_kind.proofs.Only.{the_sheet}
 use Rattle.by_kind.proofs.Rooms.{sheet_unsettled, sheet_checked}
 use Rattle.by_kind.proofs.check.Goals as goal
 
-pub returns-in-err-card : goal.returns-in-err-card
-returns-in-err-card c =
-    let p = err_from_is_err_and c.from-residual.result c.from-residual.ensures.1 in
-    the_sheet _ _ _ _ _ _ (rw (p.1, p.2, c.in-err-card.ensures.1) (SheetAnswer.unknown c.in-err-card.ensures.0))
+pub returns-in_err-card : goal.returns-in_err-card
+returns-in_err-card c =
+    let p = err_from_is_err_and c.from_residual.result c.from_residual.ensures.1 in
+    the_sheet _ _ _ _ _ _ (rw (p.1, p.2, c.in_err-card.ensures.1) (SheetAnswer.unknown c.in_err-card.ensures.0))
 
 pub planned-requires : goal.planned-requires
-planned-requires c = let ok = built_sound c.in-ok-card.card in record { some = omega (arith, c.lines.ensures, ok.some_lines); few = omega (arith, c.lines.ensures, ok.few_lines) }
+planned-requires c = let ok = built_sound c.in_ok-card.card in record { some = omega (arith, c.lines.ensures, ok.some_lines); few = omega (arith, c.lines.ensures, ok.few_lines) }
 
-pub returns-in-err-plan : goal.returns-in-err-plan
-returns-in-err-plan c =
-    let p = err_from_is_err_and c.from-residual-in-err-plan.result c.from-residual-in-err-plan.ensures.1 in
+pub returns-in_err-plan : goal.returns-in_err-plan
+returns-in_err-plan c =
+    let p = err_from_is_err_and c.from_residual-in_err-plan.result c.from_residual-in_err-plan.ensures.1 in
     the_sheet _ _ _ _ _ _
     (rw (p.1, p.2)
-    (SheetAnswer.unplanned (built_meaning c.in-ok-card.card) _ c.in-ok-card.ensures
-    (subst (λ (n : ℕ). PlanBroken n c.args.pairs.now c.in-err-plan.field-0.0) c.lines.ensures c.in-err-plan.ensures)))
+    (SheetAnswer.unplanned (built_meaning c.in_ok-card.card) _ c.in_ok-card.ensures
+    (subst (λ (n : ℕ). PlanBroken n c.args.pairs.now c.in_err-plan.field-0.0) c.lines.ensures c.in_err-plan.ensures)))
 
-pub slice-bounds-table-end : goal.slice-bounds-table-end
-slice-bounds-table-end c = omega (arith, c.cells-cells.ensures, (built_sound c.in-ok-card.card).few_cells)
+pub slice_bounds-table-end : goal.slice_bounds-table-end
+slice_bounds-table-end c = omega (arith, c.cells-cells.ensures, (built_sound c.in_ok-card.card).few_cells)
 
-pub returns-in-err-settle : goal.returns-in-err-settle
-returns-in-err-settle c =
-    let p = err_from_is_err_and c.from-residual-in-err-settle.result c.from-residual-in-err-settle.ensures.1 in
+pub returns-in_err-settle : goal.returns-in_err-settle
+returns-in_err-settle c =
+    let p = err_from_is_err_and c.from_residual-in_err-settle.result c.from_residual-in_err-settle.ensures.1 in
     the_sheet _ _ _ _ _ _
     (rw (p.1, p.2)
-    (sheet_unsettled c.args.kind c.args.lines (built_meaning c.in-ok-card.card) c.in-ok-card.ensures c.args.pairs.now c.args.holds.now c.args.sheet.now
-    (subst (λ (n : ℕ). PlanFine n c.args.pairs.now) c.lines.ensures c.in-ok-plan.ensures.0)
-    (c.cells-cells.result - 0) (omega (arith, c.cells-cells.ensures)) (built_sound c.in-ok-card.card).few_cells (pairs_of c.in-ok-plan.plan) c.in-ok-plan.ensures.1
-    c.in-err-settle.field-0.0 c.in-err-settle.ensures.0))
+    (sheet_unsettled c.args.kind c.args.lines (built_meaning c.in_ok-card.card) c.in_ok-card.ensures c.args.pairs.now c.args.holds.now c.args.sheet.now
+    (subst (λ (n : ℕ). PlanFine n c.args.pairs.now) c.lines.ensures c.in_ok-plan.ensures.0)
+    (c.cells-cells.result - 0) (omega (arith, c.cells-cells.ensures)) (built_sound c.in_ok-card.card).few_cells (pairs_of c.in_ok-plan.plan) c.in_ok-plan.ensures.1
+    c.in_err-settle.field-0.0 c.in_err-settle.ensures.0))
 
-pub slice-bounds-check-end : goal.slice-bounds-check-end
-slice-bounds-check-end c = simp length-append (omega (arith, c.settle.auto.setting))
+pub slice_bounds-check-end : goal.slice_bounds-check-end
+slice_bounds-check-end c = simp length-append (omega (arith, c.settle.auto.setting))
 
 pub returns : goal.returns
 returns c =
     the_sheet _ _ _ _ _ _
-    (sheet_checked c.args.kind c.args.lines (built_meaning c.in-ok-card.card) c.in-ok-card.ensures c.args.pairs.now c.args.holds.now c.args.sheet.now
-    (subst (λ (n : ℕ). PlanFine n c.args.pairs.now) c.lines.ensures c.in-ok-plan.ensures.0)
-    (c.cells-cells.result - 0) (omega (arith, c.cells-cells.ensures)) (built_sound c.in-ok-card.card).few_cells (pairs_of c.in-ok-plan.plan) c.in-ok-plan.ensures.1
-    c.settle.new.setting _ c.check.result c.settle.auto.setting c.in-ok-settle.ensures c.check.ensures)
+    (sheet_checked c.args.kind c.args.lines (built_meaning c.in_ok-card.card) c.in_ok-card.ensures c.args.pairs.now c.args.holds.now c.args.sheet.now
+    (subst (λ (n : ℕ). PlanFine n c.args.pairs.now) c.lines.ensures c.in_ok-plan.ensures.0)
+    (c.cells-cells.result - 0) (omega (arith, c.cells-cells.ensures)) (built_sound c.in_ok-card.card).few_cells (pairs_of c.in_ok-plan.plan) c.in_ok-plan.ensures.1
+    c.settle.new.setting _ c.check.result c.settle.auto.setting c.in_ok-settle.ensures c.check.ensures)

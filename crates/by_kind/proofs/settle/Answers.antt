@@ -8,26 +8,26 @@ use Rattle.by_kind.specs.Answering.{SettleAnswer}
 use Rattle.by_kind.proofs.Only.{the_settling}
 use Rattle.by_kind.proofs.settle.Goals as goal
 
-pub returns-in-err-card : goal.returns-in-err-card
-returns-in-err-card c =
-    let p = err_from_is_err_and c.from-residual.result c.from-residual.ensures.1 in
-    the_settling _ _ _ _ _ _ (rw (p.1, p.2, c.in-err-card.ensures.1) (SettleAnswer.unknown c.in-err-card.ensures.0))
+pub returns-in_err-card : goal.returns-in_err-card
+returns-in_err-card c =
+    let p = err_from_is_err_and c.from_residual.result c.from_residual.ensures.1 in
+    the_settling _ _ _ _ _ _ (rw (p.1, p.2, c.in_err-card.ensures.1) (SettleAnswer.unknown c.in_err-card.ensures.0))
 
 pub planned-requires : goal.planned-requires
-planned-requires c = let ok = built_sound c.in-ok-card.card in record { some = omega (arith, c.lines.ensures, ok.some_lines); few = omega (arith, c.lines.ensures, ok.few_lines) }
+planned-requires c = let ok = built_sound c.in_ok-card.card in record { some = omega (arith, c.lines.ensures, ok.some_lines); few = omega (arith, c.lines.ensures, ok.few_lines) }
 
-pub returns-in-err-plan : goal.returns-in-err-plan
-returns-in-err-plan c =
-    let p = err_from_is_err_and c.from-residual-in-err-plan.result c.from-residual-in-err-plan.ensures.1 in
+pub returns-in_err-plan : goal.returns-in_err-plan
+returns-in_err-plan c =
+    let p = err_from_is_err_and c.from_residual-in_err-plan.result c.from_residual-in_err-plan.ensures.1 in
     the_settling _ _ _ _ _ _
     (rw (p.1, p.2)
-    (SettleAnswer.unplanned (built_meaning c.in-ok-card.card) _ c.in-ok-card.ensures
-    (subst (λ (n : ℕ). PlanBroken n c.args.pairs.now c.in-err-plan.field-0.0) c.lines.ensures c.in-err-plan.ensures)))
+    (SettleAnswer.unplanned (built_meaning c.in_ok-card.card) _ c.in_ok-card.ensures
+    (subst (λ (n : ℕ). PlanBroken n c.args.pairs.now c.in_err-plan.field-0.0) c.lines.ensures c.in_err-plan.ensures)))
 
 pub returns : goal.returns
 returns c =
-    let m = built_meaning c.in-ok-card.card in
+    let m = built_meaning c.in_ok-card.card in
     the_settling _ _ _ _ _ _
-    (SettleAnswer.settled (built_meaning c.in-ok-card.card) _ _ c.in-ok-card.ensures
-    (subst (λ (n : ℕ). PlanFine n c.args.pairs.now) c.lines.ensures c.in-ok-plan.ensures.0)
-    (subst (λ (ps : List ℕ). Settled (built_meaning c.in-ok-card.card) ps c.args.holds.now c.args.setting.now c.settle.new.setting c.settle.result) c.in-ok-plan.ensures.1 c.settle.ensures))
+    (SettleAnswer.settled (built_meaning c.in_ok-card.card) _ _ c.in_ok-card.ensures
+    (subst (λ (n : ℕ). PlanFine n c.args.pairs.now) c.lines.ensures c.in_ok-plan.ensures.0)
+    (subst (λ (ps : List ℕ). Settled (built_meaning c.in_ok-card.card) ps c.args.holds.now c.args.setting.now c.settle.new.setting c.settle.result) c.in_ok-plan.ensures.1 c.settle.ensures))

@@ -22,5 +22,5 @@ returns-in-Release c = rw c.in-Release.is (GivesCommand.ordered (Gives.release c
 pub returns-in-RingOut : goal.returns-in-RingOut
 returns-in-RingOut c = rw c.in-RingOut.is GivesCommand.ring_out
 
-pub returns-in-default : goal.returns-in-default
-returns-in-default c = none_left c.args.order c.in-default.not-Plan c.in-default.not-Patch c.in-default.not-Drop c.in-default.not-Hold c.in-default.not-Release c.in-default.not-RingOut
+pub returns-in_default : goal.returns-in_default
+returns-in_default c = none_left c.args.order c.in_default.not-Plan c.in_default.not-Patch c.in_default.not-Drop c.in_default.not-Hold c.in_default.not-Release c.in_default.not-RingOut

@@ -13,7 +13,7 @@ pub returns-in-Voice : goal.returns-in-Voice
 returns-in-Voice c =
     IfOk-weaker c.act.result _ _
     (λ u a. subst (λ (o : Order). Exchanged c.args.cabinet.now (image o) (vec_items c.args.out.now) (vec_items c.act.new.out) c.act.new.cabinet) (sym c.in-Voice.is)
-    (λ p. answers_voice c.args.cabinet.now c.in-Voice.body.now _ c.decode-all-frames.result (c.lines-lines.result - 0) (vec_items c.args.out.now) (vec_items c.act.new.out) c.act.new.cabinet (built_sound c.args.cabinet.now.card).few_lines (omega (arith, c.lines-lines.ensures, ap (λ (x : Built). (built_meaning x).lines) c.card.ensures)) refl c.decode-all-frames.ensures p a))
+    (λ p. answers_voice c.args.cabinet.now c.in-Voice.body.now _ c.decode_all-frames.result (c.lines-lines.result - 0) (vec_items c.args.out.now) (vec_items c.act.new.out) c.act.new.cabinet (built_sound c.args.cabinet.now.card).few_lines (omega (arith, c.lines-lines.ensures, ap (λ (x : Built). (built_meaning x).lines) c.card.ensures)) refl c.decode_all-frames.ensures p a))
     c.act.ensures
 
 pub returns-in-Some : goal.returns-in-Some
@@ -23,7 +23,7 @@ returns-in-Some c =
     c.act-in-Some.ensures
 
 pub returns-in-None : goal.returns-in-None
-returns-in-None c = λ p. absurd (not_here _ c.args.order (built_sound c.args.cabinet.now.card).some_lines c.in-default.not-Voice p c.in-None.ensures)
+returns-in-None c = λ p. absurd (not_here _ c.args.order (built_sound c.args.cabinet.now.card).some_lines c.in_default.not-Voice p c.in-None.ensures)
 
-pub slice-bounds-act-end : goal.slice-bounds-act-end
-slice-bounds-act-end c = let wide : length c.decode-all-frames.result ≡ 16 = c.decode-all-frames.ensures.size in omega (arith, c.lines-lines.ensures, (built_sound c.card.result.now).few_lines)
+pub slice_bounds-act-end : goal.slice_bounds-act-end
+slice_bounds-act-end c = let wide : length c.decode_all-frames.result ≡ 16 = c.decode_all-frames.ensures.size in omega (arith, c.lines-lines.ensures, (built_sound c.card.result.now).few_lines)

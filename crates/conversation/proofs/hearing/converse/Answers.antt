@@ -5,5 +5,5 @@ use Rattle.conversation.proofs.hearing.converse.Goals as goal
 
 pub returns : goal.returns
 returns c =
-    c.in-ok-finish.ensures c.args.input.now []
-    (c.in-ok-feed.ensures [] [] (subst (λ (x : List ℕ). Heard [] x c.begin-talk.result) (sym c.new-said.ensures.items) c.begin-talk.ensures))
+    c.in_ok-finish.ensures c.args.input.now []
+    (c.in_ok-feed.ensures [] [] (subst (λ (x : List ℕ). Heard [] x c.begin-talk.result) (sym c.new-said.ensures.items) c.begin-talk.ensures))

@@ -16,5 +16,5 @@ returns-in-Err c =
     (c.put.ensures.items ∙ ap (λ (a : Answer). cond (is_ok c.put.result) (vec_items c.args.out.now ++ answer_bytes a) (vec_items c.args.out.now)) c.refusal.ensures)
     (λ e heard drained old.
     subst (λ (x : List ℕ). Ended heard x) (append_assoc drained (vec_items c.args.out.now) (refusal_bytes c.in-Err.fault) ∙ ap (λ (x : List ℕ). drained ++ x) (sym e))
-    (ended_cut heard (drained ++ vec_items c.args.out.now) c.args.self.now.phase (take c.args.self.now.held c.args.self.now.pending) old (omega (arith, size, c.if-held-eq0.false)) c.lines-at-lines.result c.lines-at-lines.ensures c.in-Err.fault
-    (subst (λ (k : ℕ). Reads c.lines-at-lines.result (take k c.args.self.now.pending) (refused c.in-Err.fault)) same c.in-Err.ensures.rule)))
+    (ended_cut heard (drained ++ vec_items c.args.out.now) c.args.self.now.phase (take c.args.self.now.held c.args.self.now.pending) old (omega (arith, size, c.if-held-eq0.false)) c.lines_at-lines.result c.lines_at-lines.ensures c.in-Err.fault
+    (subst (λ (k : ℕ). Reads c.lines_at-lines.result (take k c.args.self.now.pending) (refused c.in-Err.fault)) same c.in-Err.ensures.rule)))
