@@ -1,12 +1,12 @@
 -- Of the rules that a place or a settling can break, one is the first.
-use Rattle.std.proofs.Common.{◌≡◌, ℕ, ◌<◌, ◌≤◌, List, get_or, Ok, Err, Result, sym, refl, ap, subst, arith}
+use Rattle.std.proofs.Common.{◌≡◌, ℕ, ◌<◌, List, get_or, Ok, Err, Result, refl, ap, arith}
 use Rattle.card.specs.declared.fault.Cause.TheVariants.{NoPosition, SheetPosition}
 use Rattle.card.specs.declared.fault.Layer.TheVariants.{Card}
 use Rattle.card.specs.declared.fault.Fault.{Fault}
 use Rattle.card.specs.Faults.{fault}
-use Rattle.card.specs.Meaning.{Meaning, Lawful}
-use Rattle.card.specs.Placing.{Misset, Placeable, Unplaceable, Placed}
-use Rattle.card.specs.Settling.{none, Holdable, Misheld, Settleable, Unsettleable, Refusal, First, Unfit, Settled}
+use Rattle.card.specs.Meaning.{Meaning}
+use Rattle.card.specs.Placing.{Placeable, Unplaceable, Placed}
+use Rattle.card.specs.Settling.{Holdable, Settleable, Unsettleable, Refusal, First, Settled}
 use Rattle.card.proofs.Firsts.{first_same}
 use Rattle.card.proofs.One.{same_self, lowest_one}
 use Rattle.sheets.proofs.Refusals.{unlawful}

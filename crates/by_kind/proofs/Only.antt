@@ -1,5 +1,5 @@
 -- The answers of the calls by kind are the only ones.
-use Rattle.std.proofs.Common.{◌≡◌, ℕ, List, Ok, Err, Result, sym, refl, ap, subst}
+use Rattle.std.proofs.Common.{◌≡◌, ℕ, List, Err, Result, refl, ap, subst}
 use Rattle.card.specs.declared.fault.Fault.{Fault}
 use Rattle.card.specs.Meaning.{Meaning}
 use Rattle.card.specs.Placing.{Placed}

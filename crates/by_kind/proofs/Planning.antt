@@ -1,5 +1,5 @@
 -- With as many pairs as lines, a plan's own rules are those of a plan for the lines.
-use Rattle.std.proofs.Common.{◌≡◌, ℕ, ◌<◌, ◌≤◌, List, length, sym, refl, ap, ◌∙◌, subst, arith}
+use Rattle.std.proofs.Common.{◌≡◌, ℕ, ◌<◌, List, length, subst, arith}
 use Rattle.card.specs.declared.fault.Fault.{Fault}
 use Rattle.card.specs.Plans.{Lines, Plannable, Unplannable, Fine}
 use Rattle.by_kind.specs.Planning.{PlanFine, PlanBroken}

@@ -1,5 +1,5 @@
 -- From what the card settles in the front of a table, to the answer of the check.
-use Rattle.std.proofs.Common.{◌≡◌, ℕ, ◌≤◌, List, ◌++◌, length, take, replicate, Ok, Err, Result, sym, refl, ap, ◌∙◌, subst, arith}
+use Rattle.std.proofs.Common.{◌≡◌, ℕ, ◌≤◌, List, ◌++◌, length, take, replicate, Err, Result, sym, ap, ◌∙◌, subst, arith}
 use lib.ListN.{length-replicate}
 use Rattle.std.proofs.lemmas.List.{take_at, take-replicate}
 use Rattle.card.specs.declared.fault.Fault.{Fault}

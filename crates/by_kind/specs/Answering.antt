@@ -1,5 +1,5 @@
 -- What the calls on a card by its kind answer: one constructor for each rule, in the order of the rules.
-use Rattle.std.specs.Prelude.{◌≡◌, ℕ, List, replicate, Ok, Err, Result}
+use Rattle.std.specs.Prelude.{ℕ, List, replicate, Err, Result}
 use Rattle.card.specs.declared.fault.Cause.TheVariants.{UnknownCard}
 use Rattle.card.specs.declared.fault.Layer.TheVariants.{Card}
 use Rattle.card.specs.declared.fault.Fault.{Fault}

@@ -1,6 +1,6 @@
 -- The card of a kind number and a line count, looked up.
-use Rattle.std.proofs.Common.{◌≡◌, ℕ, ◌+◌, ◌-◌, ◌≤◌, Bool, true, false, ◌&&◌, eqb, leb, sym, refl, inl, inr, arith}
-use Rattle.std.proofs.lemmas.Bool.{and_parts, eqb-true, leb-true}
+use Rattle.std.proofs.Common.{◌≡◌, ℕ, ◌+◌, ◌-◌, Bool, true, false, eqb, leb, sym, refl, inl, inr, arith}
+use Rattle.std.proofs.lemmas.Bool.{eqb-true, leb-true}
 use Rattle.card.specs.Meaning.{Meaning}
 use Rattle.column.specs.Building.{Buildable}
 use Rattle.column.specs.Families.{klw, bbc}

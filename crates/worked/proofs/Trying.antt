@@ -1,7 +1,7 @@
 -- Whether a setting is the first that fits, decided by trying every lawful setting.
 use Rattle.std.proofs.Common.{◌≡◌, ℕ, zero, suc, ◌+◌, ◌<◌, Bool, true, false, not, ◌&&◌, ◌||◌, eqb, ltb, ◌⊎◌, List, [], ◌∷◌, length, get_or, sym, refl, ap, ◌∙◌, subst, inl, inr, ⊎_elim, add-zero, add-suc, suc-add, arith}
 use Rattle.std.proofs.lemmas.Bool.{and_parts, and_from, or_cases, or_left, or_right, eqb-true, eq-eqb, ltb-true, cases_eq, cases_lt, both_ways, not_from_true}
-use Rattle.card.specs.Meaning.{Meaning, Lawful}
+use Rattle.card.specs.Meaning.{Meaning}
 use Rattle.card.specs.Settling.{none, Fits, First, Before, Unfit}
 
 -- a test of each number below n

@@ -1,6 +1,5 @@
 -- The cases. Kinds: 1 KLW, 2 BBC, 3 Beneš, 4 baseline, 17 turned KLW.
 use Rattle.std.specs.Prelude.{ℕ, List, [], ◌∷◌}
-use Rattle.card.specs.Settling.{none}
 use Rattle.worked.specs.Cases.{Entry, Outcome, first, nothing, Case, entered}
 
 -- input i goes to output o; or cell c is held at position p
