@@ -1,11 +1,11 @@
 -- From a command that was obeyed to the order that was answered.
-use Rattle.std.proofs.Common.{◌≡◌, ℕ, ◌*◌, ◌≤◌, List, [], ◌∷◌, ◌++◌, length, take, Ok, Err, Result, sym, refl, ap, ◌∙◌, subst, arith, Bor}
+use Rattle.std.proofs.Common.{◌≡◌, ℕ, ◌*◌, ◌≤◌, List, length, take, Ok, Err, Result, sym, refl, ap, ◌∙◌, subst, arith, Bor}
 use Rattle.std.proofs.lemmas.List.{length-take-le}
 use Rattle.card.specs.declared.fault.Fault.{Fault}
 use Rattle.payload.specs.declared.Frame.{Frame}
 use Rattle.cabinet.specs.declared.Cabinet.{Cabinet}
 use Rattle.cabinet.specs.declared.command.Command.{Command}
-use Rattle.cabinet.specs.declared.command.Command.TheVariants.{Plan, Patch, Drop, Hold, Release, RingOut, Voice}
+use Rattle.cabinet.specs.declared.command.Command.TheVariants.{RingOut, Voice}
 use Rattle.cabinet.specs.declared.command.Reply.{Reply}
 use Rattle.cabinet.specs.Orders.{Order, Row}
 use Rattle.cabinet.specs.States.{standing}

@@ -1,9 +1,8 @@
 -- One byte more of a conversation.
-use Rattle.std.proofs.Common.{◌≡◌, ℕ, ◌+◌, ◌-◌, ◌<◌, ◌≤◌, cond, ◌⊎◌, List, [], ◌∷◌, ◌++◌, length, take, drop, set, is_ok, IfOk, Ok, Err, Result, sym, refl, ap, ◌∙◌, subst, inl, inr, ⊎_elim, append_assoc, arith, length-append}
-use Rattle.std.proofs.lemmas.List.{append-nil, take_more_set, take-append-le, take_at, take-append-drop, nil_from_length, length-take-le}
+use Rattle.std.proofs.Common.{◌≡◌, ℕ, ◌+◌, ◌-◌, ◌<◌, ◌≤◌, cond, List, [], ◌∷◌, ◌++◌, length, take, drop, set, is_ok, IfOk, Ok, Err, Result, sym, refl, ap, ◌∙◌, subst, ⊎_elim, append_assoc, arith, length-append}
+use Rattle.std.proofs.lemmas.List.{append-nil, take_more_set, take-append-le, take_at, take-append-drop}
 use Rattle.card.specs.declared.fault.Cause.TheVariants.{CutShort}
 use Rattle.card.specs.declared.fault.Layer.TheVariants.{Record}
-use Rattle.card.specs.declared.fault.Cause.{Cause}
 use Rattle.card.specs.declared.fault.Fault.{Fault}
 use Rattle.card.specs.Faults.{fault, cause_number}
 use Rattle.card.specs.Meaning.{Meaning}
@@ -15,7 +14,7 @@ use Rattle.records.proofs.One.{one_reading}
 use Rattle.conversation.specs.declared.talk.Phase.{Phase}
 use Rattle.conversation.specs.declared.talk.Phase.TheVariants.{Waiting, Serving, Over}
 use Rattle.conversation.specs.Talking.{Stage, Conversed, At, Going, Unfinished, Waits, Listening, Ended, lines_at}
-use Rattle.conversation.specs.Answering.{CarriesOn, Responded, phase_lines}
+use Rattle.conversation.specs.Answering.{CarriesOn, phase_lines}
 
 -- the bytes held back and one more, as the code has them
 pub one_more : (pending : List ℕ) (held b : ℕ) → held < length pending → take (held + 1 - 0) (set pending held b) ≡ take held pending ++ b ∷ []

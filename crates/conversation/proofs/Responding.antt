@@ -7,7 +7,6 @@ use Rattle.card.specs.Meaning.{Meaning}
 use Rattle.cabinet.specs.declared.Cabinet.{Cabinet}
 use Rattle.cabinet.specs.Orders.{Row}
 use Rattle.cabinet.specs.Logs.{Standing, Log}
-use Rattle.cabinet.specs.Telling.{Throughout}
 use Rattle.cabinet.specs.States.{standing}
 use Rattle.cabinet.proofs.Steady.{throughout}
 use Rattle.kinds.specs.declared.built.Built.{Built}

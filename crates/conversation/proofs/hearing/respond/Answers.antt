@@ -1,4 +1,4 @@
-use Rattle.std.proofs.Common.{◌≡◌, vec_items, sym, subst}
+use Rattle.std.proofs.Common.{vec_items, sym, subst}
 use Rattle.std.proofs.lemmas.Result.{IfOk-weaker}
 use Rattle.records.specs.declared.order.Order.{Order}
 use Rattle.records.specs.Format.{image}
@@ -17,10 +17,10 @@ returns-in-Commission c =
     (commissions c.in-Commission.kind c.in-Commission.lines (vec_items c.args.out.now) (vec_items c.commission.new.out) next h)))
     c.commission.ensures
 
-pub returns-in-ok-exchange : goal.returns-in-ok-exchange
-returns-in-ok-exchange c =
+pub returns-in_ok-exchange-in-Serving : goal.returns-in_ok-exchange-in-Serving
+returns-in_ok-exchange-in-Serving c =
     subst (λ (x : Phase). Responded x (image c.args.order) (vec_items c.args.out.now) (vec_items c.exchange.new.out) (Serving c.exchange.new.cabinet)) (sym c.in-Serving.is)
-    (exchanges c.in-Serving.cabinet c.exchange.new.cabinet (image c.args.order) (vec_items c.args.out.now) (vec_items c.exchange.new.out) c.in-ok-exchange.ensures)
+    (exchanges c.in-Serving.cabinet c.exchange.new.cabinet (image c.args.order) (vec_items c.args.out.now) (vec_items c.exchange.new.out) c.in_ok-exchange-in-Serving.ensures)
 
 pub returns-in-Over : goal.returns-in-Over
 returns-in-Over c =

@@ -1,4 +1,4 @@
-use Rattle.std.proofs.Common.{◌≡◌, ℕ, List, [], ◌∷◌, ◌++◌, length, get_or, take, vec_items, sym, refl, ap, ◌∙◌, subst, append_assoc}
+use Rattle.std.proofs.Common.{ℕ, List, ◌++◌, take, vec_items, sym, subst}
 use Rattle.std.proofs.lemmas.List.{append-nil, take_all, take_more}
 use Rattle.conversation.specs.Talking.{Heard}
 use Rattle.conversation.proofs.HearingOn.{both}
