@@ -39,7 +39,7 @@ struct Run {
 fn entry(word: &[u8]) -> Option<u8>
     ensures { EntryOf word.now result }
 {
-    if word == b"-" {
+    if word == b"-".as_slice() {
         Some(NONE)
     } else {
         number(word)

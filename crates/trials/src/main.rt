@@ -6,7 +6,7 @@ mod orders;
 mod records_text;
 mod text;
 
-use capi::wimbleyam_check;
+use codes::check;
 use std::alloc::Global;
 use std::io;
 use std::io::{BufRead, BufReader};
@@ -31,7 +31,7 @@ fn card_case(rt: &impl Print, heap: Global, line: &str, cases: &[Vec<u8>]) -> io
         let verdict = cards::cabinet_checked(kind, lines, first, second, part(cases, 3));
         text::number(rt, &verdict)
     } else if line.starts_with("check") {
-        let number = wimbleyam_check(kind, lines, first, second, part(cases, 3));
+        let number = check(kind, lines, first, second, part(cases, 3));
         print!(rt; "{number}")
     } else {
         orders::orders_case(rt, heap, kind, lines, line, cases)

@@ -6,30 +6,30 @@ use Rattle.sheet_text.proofs.Entries.{some_word, no_word}
 use Rattle.sheet_text.proofs.OneReading.{the_reading}
 use Rattle.sheet_text.proofs.reading.parse.Goals as goal
 
-pub returns-in-default : goal.returns-in-default
-returns-in-default c = the_reading _ _ (Reading.no_kind c.in-default.ensures)
+pub returns-in_default : goal.returns-in_default
+returns-in_default c = the_reading _ _ (Reading.no_kind c.in_default.ensures)
 
-pub returns-in-default-keyed : goal.returns-in-default-keyed
-returns-in-default-keyed c = the_reading _ _ (Reading.no_lines _ _ c.in-Some.ensures c.in-default-keyed.ensures)
+pub returns-in_default-keyed : goal.returns-in_default-keyed
+returns-in_default-keyed c = the_reading _ _ (Reading.no_lines _ _ c.in-Some.ensures c.in_default-keyed.ensures)
 
-pub returns-in-default-keyword : goal.returns-in-default-keyword
-returns-in-default-keyword c = the_reading _ _ (Reading.no_plan _ _ _ (record { between = _; kind = c.in-Some.ensures; lines = c.in-Some-keyed.ensures }) c.in-default-keyword.ensures)
+pub returns-in_default-keyword : goal.returns-in_default-keyword
+returns-in_default-keyword c = the_reading _ _ (Reading.no_plan _ _ _ (record { between = _; kind = c.in-Some.ensures; lines = c.in-Some-keyed.ensures }) c.in_default-keyword.ensures)
 
-pub returns-in-default-keyword-2 : goal.returns-in-default-keyword-2
-returns-in-default-keyword-2 c = the_reading _ _ (Reading.no_holds _ _ _ _ _ (record { between = _; kind = c.in-Some.ensures; lines = c.in-Some-keyed.ensures }) (record { entries = _; named = c.in-Some-keyword.ensures; listed = c.listed-plan.ensures }) c.in-default-keyword-2.ensures)
+pub returns-in_default-keyword-2 : goal.returns-in_default-keyword-2
+returns-in_default-keyword-2 c = the_reading _ _ (Reading.no_holds _ _ _ _ _ (record { between = _; kind = c.in-Some.ensures; lines = c.in-Some-keyed.ensures }) (record { entries = _; named = c.in-Some-keyword.ensures; listed = c.listed-plan.ensures }) c.in_default-keyword-2.ensures)
 
-pub returns-in-default-keyword-3 : goal.returns-in-default-keyword-3
-returns-in-default-keyword-3 c = the_reading _ _ (Reading.no_sheet _ _ _ _ _ _ _ (record { between = _; kind = c.in-Some.ensures; lines = c.in-Some-keyed.ensures }) (record { entries = _; named = c.in-Some-keyword.ensures; listed = c.listed-plan.ensures }) (record { entries = _; named = c.in-Some-keyword-2.ensures; listed = c.listed-holds.ensures }) c.in-default-keyword-3.ensures)
+pub returns-in_default-keyword-3 : goal.returns-in_default-keyword-3
+returns-in_default-keyword-3 c = the_reading _ _ (Reading.no_sheet _ _ _ _ _ _ _ (record { between = _; kind = c.in-Some.ensures; lines = c.in-Some-keyed.ensures }) (record { entries = _; named = c.in-Some-keyword.ensures; listed = c.listed-plan.ensures }) (record { entries = _; named = c.in-Some-keyword-2.ensures; listed = c.listed-holds.ensures }) c.in_default-keyword-3.ensures)
 
-pub returns-then-is-some : goal.returns-then-is-some
-returns-then-is-some c =
+pub returns-then-is_some : goal.returns-then-is_some
+returns-then-is_some c =
     the_reading _ _
     (Reading.no_end _ _ _ _ _ _ _ _ _ (record { between = _; kind = c.in-Some.ensures; lines = c.in-Some-keyed.ensures }) (record { entries = _; named = c.in-Some-keyword.ensures; listed = c.listed-plan.ensures }) (record { entries = _; named = c.in-Some-keyword-2.ensures; listed = c.listed-holds.ensures }) (record { entries = _; named = c.in-Some-keyword-3.ensures; listed = c.listed-sheet.ensures })
-    (some_word c.args.text.now c.listed-sheet.result.end c.next-word.result c.next-word.ensures (sym c.is-some.ensures ∙ c.if-is-some.true)))
+    (some_word c.args.text.now c.listed-sheet.result.end c.next_word.result c.next_word.ensures (sym c.is_some.ensures ∙ c.if-is_some.true)))
 
 pub returns : goal.returns
 returns c =
-    let last = no_word c.args.text.now c.listed-sheet.result.end c.next-word.result c.next-word.ensures (sym c.is-some.ensures ∙ c.if-is-some.false) in
+    let last = no_word c.args.text.now c.listed-sheet.result.end c.next_word.result c.next_word.ensures (sym c.is_some.ensures ∙ c.if-is_some.false) in
     the_reading _ _
     (Reading.read _ _ _ _ (record { between = _; kind = c.in-Some.ensures; lines = c.in-Some-keyed.ensures }) (record { entries = _; named = c.in-Some-keyword.ensures; listed = c.listed-plan.ensures }) (record { entries = _; named = c.in-Some-keyword-2.ensures; listed = c.listed-holds.ensures })
     (subst (λ (rest : List Word). ListRead (words_of (drop c.listed-holds.result.end c.args.text.now)) (codes "sheet") (values c.listed-sheet.result.numbers) rest) last (record { entries = _; named = c.in-Some-keyword-3.ensures; listed = c.listed-sheet.ensures })))
