@@ -1,6 +1,7 @@
 // Checks a sheet that stands as text on standard input, and writes the verdict in words.
 #![tactic(auto)]
 
+use anyhow::anyhow;
 use sheet_text::phrases::{cause_words, misread_words, verdict_words};
 use sheet_text::reading::parse;
 use std::io::Read;
@@ -11,7 +12,7 @@ fn run(rt: &HostRuntime) -> anyhow::Result<()> {
     rt.stdin().read_to_end(&mut text)?;
     let request = match parse(text.as_slice()) {
         Ok(request) => request,
-        Err(misread) => return Err(misread_words(misread).into()),
+        Err(misread) => return Err(anyhow!(misread_words(misread))),
     };
     match request.check() {
         Ok(verdict) => rt.println(verdict_words(verdict))?,
