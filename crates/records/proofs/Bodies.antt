@@ -1,13 +1,11 @@
 -- The frames of a body, one after another.
-use Rattle.std.proofs.Common.{◌≡◌, ℕ, zero, suc, ◌+◌, ◌*◌, ◌<◌, ◌≤◌, List, [], ◌∷◌, ◌++◌, length, get_or, take, drop, set, replicate, ℤ, sym, refl, ap, ◌∙◌, subst, ⊎_elim, arith, length-append, length-set, take-add}
+use Rattle.std.proofs.Common.{◌≡◌, ℕ, zero, suc, ◌+◌, ◌*◌, ◌<◌, ◌≤◌, List, [], ◌++◌, length, get_or, take, drop, set, replicate, sym, refl, ap, ◌∙◌, subst, ⊎_elim, arith, length-set, take-add}
 use lib.ListN.{get_or-replicate}
-use Rattle.std.specs.List.{flat_map}
-use Rattle.std.proofs.lemmas.List.{get_or-set_same, get_or-set_other, take_more, take_all, take_at, drop_at, flat_map_more}
+use Rattle.std.proofs.lemmas.List.{get_or-set_same, get_or-set_other, take_more, take_all, flat_map_more}
 use Rattle.std.proofs.lemmas.Bool.{cases_lt}
 use Rattle.payload.specs.declared.Frame.{Frame}
 use Rattle.payload.specs.Silence.{quiet_frame}
-use Rattle.records.specs.Frames.{Typed, AllTyped, Framed, sample_bytes, frame_bytes, frames_bytes}
-use Rattle.records.proofs.Framing.{same_frame}
+use Rattle.records.specs.Frames.{Typed, Framed, frame_bytes, frames_bytes}
 
 -- what has been read of a body when n frames have been tried
 pub record SoFar (body : List ℕ) (n : ℕ) (frames : List Frame) : Type 0 where
@@ -84,43 +82,3 @@ put_more default before items new bytes fs i h old is pushed =
     pushed ∙ ap (λ (x : List ℕ). items ++ x) is ∙ ap (λ (x : List ℕ). x ++ frame_bytes (get_or fs i default)) old
     ∙ flat_map_more frame_bytes before (take i fs) (get_or fs i default)
     ∙ ap (λ (x : List Frame). before ++ frames_bytes x) (sym (take_more fs i default h))
-
--- the first frames have no more bytes than all
-front_length : (fs : List Frame) (i : ℕ) → length (frames_bytes (take i fs)) ≤ length (frames_bytes fs)
-front_length fs zero = omega arith
-front_length [] (suc i) = omega arith
-front_length (f ∷ fs) (suc i) = simp length-append (omega (arith, front_length fs i))
-
--- where there is no room for one frame more, there was none for all
-pub no_room : (default : Frame) (before items bytes : List ℕ) (fs : List Frame) (i room : ℕ) → i < length fs → items ≡ before ++ frames_bytes (take i fs) → bytes ≡ frame_bytes (get_or fs i default) → room < length items + length bytes → room < length before + length (frames_bytes fs)
-no_room default before items bytes fs i room h old is full =
-    let e : length items + length bytes ≡ length before + length (frames_bytes (take (i + 1) fs)) = sym (length-append items bytes) ∙ ap length (put_more default before items (items ++ bytes) bytes fs i h old is refl) ∙ length-append before (frames_bytes (take (i + 1) fs)) in
-    omega (arith, front_length fs (i + 1))
-
--- a frame has eleven bytes
-eight : (zs : List ℤ) → length zs ≡ 4 → length (flat_map sample_bytes zs) ≡ 8
-eight [] e = absurd (omega (arith, e))
-eight (a ∷ []) e = absurd (omega (arith, e))
-eight (a ∷ b ∷ []) e = absurd (omega (arith, e))
-eight (a ∷ b ∷ c ∷ []) e = absurd (omega (arith, e))
-eight (a ∷ b ∷ c ∷ d ∷ []) e = refl
-eight (a ∷ b ∷ c ∷ d ∷ x ∷ zs) e = absurd (omega (arith, e))
-
-eleven : (f : Frame) → Typed f → length (frame_bytes f) ≡ 11
-eleven f t = omega (arith, eight f.samples t.four)
-
--- frames as their type says them are told apart by their bytes
-pub same_frames : (fs gs : List Frame) → length fs ≡ length gs → AllTyped fs → AllTyped gs → frames_bytes fs ≡ frames_bytes gs → fs ≡ gs
-same_frames [] [] l p q e = refl
-same_frames [] (g ∷ gs) l p q e = absurd (omega (arith, l))
-same_frames (f ∷ fs) [] l p q e = absurd (omega (arith, l))
-same_frames (f ∷ fs) (g ∷ gs) l p q e =
-    let tf : Typed f = p 0 (omega arith) in
-    let tg : Typed g = q 0 (omega arith) in
-    let lf = eleven f tf in
-    let lg = eleven g tg in
-    let head : frame_bytes f ≡ frame_bytes g = sym (take_at (frame_bytes f) (frames_bytes fs) 11 lf) ∙ ap (take 11) e ∙ take_at (frame_bytes g) (frames_bytes gs) 11 lg in
-    let tail : frames_bytes fs ≡ frames_bytes gs = sym (drop_at (frame_bytes f) (frames_bytes fs) 11 lf) ∙ ap (drop 11) e ∙ drop_at (frame_bytes g) (frames_bytes gs) 11 lg in
-    let one : f ≡ g = same_frame f g tf tg head in
-    let rest : fs ≡ gs = same_frames fs gs (omega (arith, l)) (λ i h. p (suc i) (omega arith)) (λ i h. q (suc i) (omega arith)) tail in
-    λ t. one t ∷ rest t

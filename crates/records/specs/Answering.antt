@@ -5,7 +5,7 @@ use Rattle.card.specs.Faults.{cause_number, layer_number}
 use Rattle.payload.specs.declared.Frame.{Frame}
 use Rattle.records.specs.Frames.{frames_bytes}
 use Rattle.records.specs.declared.answer.Answer.{Answer}
-use Rattle.records.specs.declared.answer.Answer.TheVariants.{Done, RungOut, Voice, Refused}
+use Rattle.records.specs.declared.answer.Answer.TheVariants.{Done, RungOut, Refused}
 
 -- each answer is two letters, and then what it holds: how many cells moved, and the position of each cell;
 abbrev pub done_bytes : ℕ → List ℕ → List ℕ
@@ -26,5 +26,4 @@ refusal_bytes f = codes "NO" ++ (cause_number f.cause ∷ layer_number f.layer �
 abbrev pub answer_bytes : Answer → List ℕ
 answer_bytes (Done moved setting) = done_bytes moved setting.now
 answer_bytes (RungOut numbers) = ring_bytes numbers.now
-answer_bytes (Voice frames) = voice_bytes frames.now
 answer_bytes (Refused f) = refusal_bytes f

@@ -25,10 +25,6 @@ pub record Typed (f : Frame) : Type 0 where
   pub third : FitsSigned w16 (slice_index_or f.samples 2 (pos 0))
   pub fourth : FitsSigned w16 (slice_index_or f.samples 3 (pos 0))
 
--- each of these frames is so
-abbrev pub AllTyped : List Frame → Type 0
-AllTyped fs = (i : ℕ) → i < length fs → Typed (slice_index_or fs i quiet_frame)
-
 -- the bytes of frames, one after another
 abbrev pub frames_bytes : List Frame → List ℕ
 frames_bytes fs = flat_map frame_bytes fs

@@ -7,12 +7,11 @@ use card::fault::Fault;
 use payload::Frame;
 use std::alloc::AllocError;
 
-// What an order is answered: the moved byte and the setting, a position for each cell; a byte for each line after a ring-out; a frame for each line after a voice carry; or a refusal.
+// What an order is answered: the moved byte and the setting, a position for each cell; a byte for each line after a ring-out; or a refusal.
 #[derive(Clone, Copy)]
 pub enum Answer<'a> {
     Done { moved: u8, setting: &'a [u8] },
     RungOut(&'a [u8]),
-    Voice(&'a [Frame]),
     Refused(Fault),
 }
 
@@ -38,21 +37,6 @@ fn append(head: &[u8], tail: &[u8], out: &mut Vec<u8>) -> Result<(), AllocError>
     Ok(())
 }
 
-// Appends the bytes of an answer to a voice order, all of them or none.
-pub fn put_voice(frames: &[Frame], out: &mut Vec<u8>) -> Result<(), AllocError>
-    ensures items { out.new.items ≡ (if is_ok result then out.old.items ++ voice_bytes frames.now else out.old.items) }
-    ensures succeeds { vec_len out.old + length (voice_bytes frames.now) ≤ vec_capacity out.old → is_ok result ≡ true }
-    ensures capacity { vec_capacity out.old ≤ vec_capacity out.new }
-{
-    let start = out.len();
-    out.extend_from_slice(b"VA")?;
-    if let Err(error) = put_frames(frames, out) {
-        out.truncate(start);
-        return Err(error);
-    }
-    Ok(())
-}
-
 // Appends the bytes of an answer, all of them or none. With room enough it does not fail.
 pub fn put(answer: &Answer<'_>, out: &mut Vec<u8>) -> Result<(), AllocError>
     ensures items { out.new.items ≡ (if is_ok result then out.old.items ++ answer_bytes answer.now else out.old.items) }
@@ -62,11 +46,23 @@ pub fn put(answer: &Answer<'_>, out: &mut Vec<u8>) -> Result<(), AllocError>
     match answer {
         Answer::Done { moved, setting } => append(&[b'O', b'K', *moved], setting, out),
         Answer::RungOut(bytes) => append(b"RA", bytes, out),
-        Answer::Voice(frames) => put_voice(frames, out),
         Answer::Refused(fault) => append(
             b"NO",
             &[fault.number(), fault.layer_number(), fault.place],
             out,
         ),
     }
+}
+
+// Appends the bytes of an answer to a voice order, all of them or none.
+pub fn put_voice(frames: &[Frame], out: &mut Vec<u8>) -> Result<(), AllocError>
+    ensures { out.new.items ≡ (if is_ok result then out.old.items ++ voice_bytes frames.now else out.old.items) }
+{
+    let start = out.len();
+    out.extend_from_slice(b"VA")?;
+    if let Err(error) = put_frames(frames, out) {
+        out.truncate(start);
+        return Err(error);
+    }
+    Ok(())
 }

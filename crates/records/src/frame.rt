@@ -1,7 +1,7 @@
 // Voice frames as bytes.
-ghost use Rattle.std.specs.Prelude.{◌≡◌, ◌+◌, ◌≤◌, true, [], ◌∷◌, length, take, drop, is_ok, vec_len, vec_capacity};
+ghost use Rattle.std.specs.Prelude.{◌≡◌, ◌+◌, ◌≤◌, [], ◌∷◌, length, take, drop};
 ghost use Rattle.payload.specs.declared.Frame.{Frame};
-ghost use Rattle.records.specs.Frames.{Typed, Framed, Appended, frame_bytes, frames_bytes, sample_bytes, wide};
+ghost use Rattle.records.specs.Frames.{Typed, Framed, Appended, frame_bytes, sample_bytes, wide};
 
 use payload::{Frame, Payload};
 use std::alloc::AllocError;
@@ -95,9 +95,7 @@ pub fn decode_all(body: &[u8]) -> [Frame; 16]
 
 // Appends the bytes of frames, or the front of them where there is no memory for more.
 pub(crate) fn put_frames(frames: &[Frame], out: &mut Vec<u8>) -> Result<(), AllocError>
-    ensures items { Appended frames.now out.old.items out.new.items result }
-    ensures succeeds { vec_len out.old + length (frames_bytes frames.now) ≤ vec_capacity out.old → is_ok result ≡ true }
-    ensures capacity { vec_capacity out.old ≤ vec_capacity out.new }
+    ensures { Appended frames.now out.old.items out.new.items result }
 {
     for frame in frames {
         let bytes = encode(*frame);

@@ -1,7 +1,7 @@
-use Rattle.std.proofs.Common.{◌≡◌, ◌≤◌, ◌++◌, take, vec_items, vec_capacity}
+use Rattle.std.proofs.Common.{◌≡◌, ◌++◌, take, vec_items}
 use Rattle.records.specs.Frames.{frames_bytes}
 use Rattle.records.proofs.frame.put_frames.Given as goal
 
--- the bytes of the frames so far are appended, and there is no less room
+-- the bytes of the frames so far are appended
 abbrev pub invariant-loop-frame : goal.invariant-loop-frame
-invariant-loop-frame l = (vec_items l.out ≡ vec_items l.initial.out ++ frames_bytes (take l.frame-index l.frames)) × (vec_capacity l.initial.out ≤ vec_capacity l.out)
+invariant-loop-frame l = vec_items l.out ≡ vec_items l.initial.out ++ frames_bytes (take l.frame-index l.frames)
