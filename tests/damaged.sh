@@ -10,7 +10,7 @@ second=$(cd "$(dirname "$1")" && pwd)/$(basename "$1")
 streams=${2:-2000}
 first=${3:-1}
 cd "$(dirname "$0")/.." || exit 2
-program=target/bin/wimbleyam
+program=crates/wimbleyam/out/wimbleyam
 for needed in "$second" "$program"; do
     if [ ! -x "$needed" ]; then echo "damaged.sh: $needed is missing" >&2; exit 2; fi
 done

@@ -12,8 +12,7 @@ work=$(mktemp -d) || exit 2
 trap 'rm -rf "$work"' EXIT
 copy=$work/copy
 mkdir "$copy" && cp -R crates crates.txt "$copy/" || exit 2
-[ -d target ] && cp -R target "$copy/target"
-rm -rf "$copy/target/must-fail" "$copy"/crates/*/must-fail
+rm -rf "$copy"/crates/*/must-fail
 new=
 if [ "${1:-}" = --new ]; then new=1 && shift; fi
 if [ $# -eq 0 ]; then
@@ -23,7 +22,7 @@ fi
 # Builds and runs the programs with the edit in place, and says whether one fails.
 tested() { # CRATE EDIT
     local at=$work/tested
-    rm -rf "$at" && mkdir "$at" && cp -R "$copy/crates" "$copy/crates.txt" "$copy/target" "$at/"
+    rm -rf "$at" && mkdir "$at" && cp -R "$copy/crates" "$copy/crates.txt" "$at/"
     rm -rf "$at"/crates/*/must-fail
     python3 - "$at/crates/$1" "$2" <<'END' || return 2
 import sys
@@ -34,7 +33,7 @@ text = open(path).read()
 assert text.count(lines["old"]) == 1
 open(path, "w").write(text.replace(lines["old"], lines["new"]))
 END
-    (cd "$at" && rt check) >"$work/tested.log" 2>&1
+    (cd "$at" && rt ci) >"$work/tested.log" 2>&1
 }
 
 survived=0
@@ -48,10 +47,10 @@ for crate in "$@"; do
         (cd "$copy" && rt must-fail "$crate") >"$work/log" 2>&1
         for edit in "$copy/crates/$crate/must-fail"/*.edit; do
             label=$(basename "$edit" .edit)
-            line=$(grep -F "must-fail $crate/$label:" "$work/log" | head -n 1)
+            line=$(grep -F "must-fail $crate/$label.edit:" "$work/log" | head -n 1)
             case $line in
             *'refused, as it must be'*)
-                echo "$crate $label: refused by the prover$(echo "$line" | sed -n 's/.*(\(first at [^;]*\); .*/, \1/p')" ;;
+                echo "$crate $label: refused by the prover: ${line#*as it must be: }" ;;
             *'NOT REFUSED'*)
                 if tested "$crate" "$edit"; then
                     echo "$crate $label: SURVIVED"

@@ -3,7 +3,7 @@
 
     tests/sheets.py SHEET TABLE..
 
-SHEET is the program (target/bin/sheet). Each case is written in one of several layouts, some with comments;
+SHEET is the program (crates/sheet/out/sheet). Each case is written in one of several layouts, some with comments;
 its answer has to be the line that docs/RULES.md gives for the number in the table.
 """
 import re

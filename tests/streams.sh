@@ -11,7 +11,7 @@ wanted=${2:-5000}
 orders=${3:-250}
 first=${4:-1}
 cd "$(dirname "$0")/.." || exit 2
-program=target/bin/wimbleyam
+program=crates/wimbleyam/out/wimbleyam
 for needed in "$second" "$program"; do
     if [ ! -x "$needed" ]; then echo "streams.sh: $needed is missing" >&2; exit 2; fi
 done

@@ -2,8 +2,8 @@
 """Times settling on a Beneš card of 16 lines: the proved program, the same search in plain Rust and the looping
 algorithm, on the same cases, one after the other.
 
-    rt check bench && rustc --edition 2021 -O tests/bench/plain.rs -o target/plain
-    tests/bench/measure.py target/bin/bench target/plain [PLANS] [SEED]
+    (cd crates/bench && rt run </dev/null) && rustc --edition 2021 -O tests/bench/plain.rs -o target/plain
+    tests/bench/measure.py crates/bench/out/bench target/plain [PLANS] [SEED]
 
 Full plans: random ones without holds. Refusals: random full plans with all eight innermost cells held, those that no
 setting fits. Longest refusal: the pair 0 to 0 alone with all innermost cells held at 1, so that every first column is

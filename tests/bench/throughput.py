@@ -1,8 +1,8 @@
 #!/usr/bin/env python3
 """Counts how many orders a second the record program answers, beside the second program, on the same streams.
 
-    rt check wimbleyam && rustc --edition 2021 -O tests/second/second.rs -o target/second
-    tests/bench/throughput.py target/bin/wimbleyam target/second [ORDERS] [SEED]
+    (cd crates/wimbleyam && rt run </dev/null) && rustc --edition 2021 -O tests/second/second.rs -o target/second
+    tests/bench/throughput.py crates/wimbleyam/out/wimbleyam target/second [ORDERS] [SEED]
 
 A stream commissions a KLW card of 8 lines or a Beneš card of 16, and then mixes all orders: a quarter plans,
 the rest patches, drops, holds, releases, ring-outs and voice frames, refused ones among them. Each program
