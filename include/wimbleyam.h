@@ -1,6 +1,6 @@
 /*
  * The calls of Wimbleyam for C: check a sheet, read a column sheet, settle a card.
- * Link target/staticlib/libcapi.a, which `rt staticlib capi` writes.
+ * Link crates/capi/out/libcapi.a, which `rt lib` writes in crates/capi.
  *
  * A card is named by its kind and its line count N:
  *

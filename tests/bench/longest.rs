@@ -1,6 +1,7 @@
 //! Looks for refusals on a Beneš card of 16 lines that take the program `bench` long: random plans with holds on innermost
-//! cells, then small changes, kept where the search takes no fewer steps. It counts the steps of the same search in plain
+//! cells, then small changes, kept where the search takes no fewer steps. It counts the steps of a search in plain
 //! Rust, so that no other program on the machine disturbs it, and writes each case that is longer than all before it.
+//! That search passes over each first column with a cell at 1 that has no hold and two idle inputs; the program tries them.
 //!   rustc --edition 2021 -O tests/bench/longest.rs -o longest && ./longest STARTS SEED
 const NONE: u8 = 255;
 const INNERMOST: [usize; 8] = [28, 29, 34, 35, 48, 49, 54, 55];

@@ -33,3 +33,7 @@ module _ (lead : ℕ → ℕ → ℕ → ℕ) (law : Leading lead) where
             (cases_lt (length (drop (j - s) l)) i);
         apart = λ l w a b s ha hb t e. through_apart lead law (drop (j - s) l) (drop_of (j - s) l (ranged j l w)) a b e;
       }
+
+  -- the card of so many lines
+  pub lines_sound : (n : ℕ) → 2 ≤ n → n ≤ 8 → Sound (column_card lead (n - 1))
+  lines_sound n some few = card_sound (n - 1) (omega arith) (omega arith)

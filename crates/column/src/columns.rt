@@ -2,8 +2,7 @@
 ghost use Rattle.std.specs.Prelude.{◌≡◌, ℕ, ◌-◌, ◌≤◌, Ok, Err};
 ghost use Rattle.column.specs.Building.{Buildable, Unbuildable};
 ghost use Rattle.column.specs.Passing.{column_card};
-ghost use Rattle.std.proofs.Common.{arith};
-ghost use Rattle.column.specs.Soundness.{card_sound};
+ghost use Rattle.column.specs.Soundness.{lines_sound};
 
 use super::leaders::Leaders;
 use super::position::turn;
@@ -46,7 +45,7 @@ impl<F: Leaders + Drop> ColumnCard<F> {
 impl<F: Leaders> Card for ColumnCard<F> {
     ghost meaning = { λ c. column_card F.Leaders.lead (c.lines - 1) };
 
-    ghost sound = { λ c. card_sound F.Leaders.lead F.Leaders.leading (c.lines - 1) (omega arith) (omega arith) };
+    ghost sound = { λ c. lines_sound F.Leaders.lead F.Leaders.leading c.lines c.sized.0 c.sized.1 };
 
     fn lines(&self) -> u8 {
         self.lines

@@ -2,8 +2,7 @@
 ghost use Rattle.std.specs.Prelude.{◌≡◌, ◌<◌, Ok, Err};
 ghost use Rattle.halving.specs.Building.{Built, Unbuildable};
 ghost use Rattle.halving.specs.Halving.{baseline};
-ghost use Rattle.std.proofs.Common.{arith};
-ghost use Rattle.halving.specs.Soundness.{halving_sound};
+ghost use Rattle.halving.specs.Soundness.{baseline_sound};
 
 use super::baseline_settling::settle_all;
 use super::places::place_after;
@@ -51,7 +50,7 @@ impl Baseline {
 impl Card for Baseline {
     ghost meaning = { λ c. baseline c.level };
 
-    ghost sound = { λ c. halving_sound 1 c.level (omega arith) c.small };
+    ghost sound = { λ c. baseline_sound c.level c.small };
 
     fn lines(&self) -> u8 {
         line_count(self.level)

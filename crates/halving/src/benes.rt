@@ -2,8 +2,7 @@
 ghost use Rattle.std.specs.Prelude.{◌≡◌, ◌<◌, Ok, Err};
 ghost use Rattle.halving.specs.Building.{Built, Unbuildable};
 ghost use Rattle.halving.specs.Halving.{benes};
-ghost use Rattle.std.proofs.Common.{arith};
-ghost use Rattle.halving.specs.Soundness.{halving_sound};
+ghost use Rattle.halving.specs.Soundness.{benes_sound};
 
 use super::benes_settling::settle_all;
 use super::places::place_after;
@@ -51,7 +50,7 @@ impl Benes {
 impl Card for Benes {
     ghost meaning = { λ c. benes c.level };
 
-    ghost sound = { λ c. halving_sound 2 c.level (omega arith) c.small };
+    ghost sound = { λ c. benes_sound c.level c.small };
 
     fn lines(&self) -> u8 {
         line_count(self.level)
