@@ -1,6 +1,6 @@
 // Cards of every kind, plain or turned.
 ghost use Rattle.kinds.specs.Kinds.{built_meaning};
-ghost use Rattle.kinds.specs.Building.{Built as Is_built};
+ghost use Rattle.kinds.specs.Building.{Built as IsBuilt};
 ghost use Rattle.kinds.specs.Soundness.{built_sound};
 
 use super::plain::{Plain, build_plain};
@@ -70,7 +70,7 @@ impl Card for Built {
 
 // The card of this kind with so many lines.
 pub fn build(kind: u8, lines: u8) -> Result<Built, Fault>
-    ensures { Is_built kind lines result }
+    ensures { IsBuilt kind lines result }
 {
     if kind > TURNED {
         Ok(Built::Turned(Turned::new(build_plain(kind - TURNED, lines)?)))
