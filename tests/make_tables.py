@@ -193,13 +193,12 @@ def words(numbers):
     return " ".join(map(str, numbers))
 
 
-def settle_cases(second, seed):
-    """At least 900 different lines, 500 of them of kinds 3 and 4, every kind among them."""
-    count = 1100
+def settle_cases(second, seed, least=900, count=1100):
+    """At least so many different lines, 500 of them of kinds 3 and 4, every kind among them."""
     while True:
         lines = list(dict.fromkeys(run(second, "gen-settle", seed, count).decode().splitlines()))
         kinds = Counter(int(line.split()[0]) for line in lines)
-        if len(lines) >= 900 and kinds[3] + kinds[4] >= 500 and all(kinds[k] for k in KINDS):
+        if len(lines) >= least and kinds[3] + kinds[4] >= 500 and all(kinds[k] for k in KINDS):
             break
         count += 100
     answers = run(second, "settle", given=("\n".join(lines) + "\n").encode()).decode().splitlines()
@@ -219,12 +218,12 @@ def settle_cases(second, seed):
     return cases
 
 
-def place_cases(second, seed):
-    """Different places of every kind and line count."""
+def place_cases(second, seed, each=12):
+    """Different places of every kind and line count, made from so many each."""
     found = {}
     for kind in KINDS:
         for n in (2, 4, 8, 16) if kind in HALVING else range(2, 9):
-            text = run(second, "places", kind, n, seed * 1000 + kind * 20 + n, 12).decode()
+            text = run(second, "places", kind, n, seed * 1000 + kind * 20 + n, each).decode()
             for line in text.splitlines():
                 question, answer = line.split(" = ")
                 front, asked = question.split(" / ")
@@ -299,4 +298,5 @@ def main():
         print(f"  {name}: " + ", ".join(f"kind {k} {kinds[k]}" for k in KINDS))
 
 
-main()
+if __name__ == "__main__":
+    main()

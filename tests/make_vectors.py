@@ -9,113 +9,10 @@ compared: each of its lines that the second program can answer must have that an
 the product. docs/RULES.md has the forms of the lines.
 """
 import os
-import subprocess
 import sys
 from collections import Counter
 
-HALVING = (3, 4, 19, 20)
-KINDS = (1, 2, 3, 4, 17, 18, 19, 20)
-ORDERS = 24
-MARKS = {b"PL": "plan", b"PT": "patch", b"DR": "drop", b"HO": "hold", b"RE": "release", b"RO": "ring", b"VF": "carry"}
-
-
-def cells(kind, lines):
-    if kind % 16 in (1, 2):
-        return lines - 1
-    beside = {3: {2: 1, 4: 6, 8: 20, 16: 56}, 4: {2: 1, 4: 4, 8: 12, 16: 32}}
-    return beside[kind % 16][lines]
-
-
-def run(second, *args, given=b""):
-    return subprocess.run([second, *map(str, args)], input=given, stdout=subprocess.PIPE, check=True).stdout
-
-
-def words(numbers):
-    return " ".join(map(str, numbers))
-
-
-def settle_cases(second, seed):
-    """At least 2,000 different lines, 500 of them of kinds 3 and 4, every kind among them."""
-    count = 2300
-    while True:
-        lines = list(dict.fromkeys(run(second, "gen-settle", seed, count).decode().splitlines()))
-        kinds = Counter(int(line.split()[0]) for line in lines)
-        if len(lines) >= 2000 and kinds[3] + kinds[4] >= 500 and all(kinds[k] for k in KINDS):
-            break
-        count += 100
-    answers = run(second, "settle", given=("\n".join(lines) + "\n").encode()).decode().splitlines()
-    assert len(answers) == len(lines)
-    cases = []
-    for line, answer in zip(lines, answers):
-        front, held = line.split("/")
-        kind, n, *plan = map(int, front.split())
-        m = cells(kind, n)
-        holds = [255] * m
-        for hold in held.split():
-            c, q = map(int, hold.split(":"))
-            holds[c] = q
-        assert len(plan) == n
-        assert answer.startswith("NO ") or len(answer.split()) == m
-        cases.append((f"settle {kind} {n} / {words(plan)} / {words(holds)} / {m}", answer))
-    return cases
-
-
-def place_cases(second, seed):
-    """Different places of every kind and line count, 1,000 at least."""
-    found = {}
-    for kind in KINDS:
-        for n in (2, 4, 8, 16) if kind in HALVING else range(2, 9):
-            text = run(second, "places", kind, n, seed * 1000 + kind * 20 + n, 30).decode()
-            for line in text.splitlines():
-                question, answer = line.split(" = ")
-                front, asked = question.split(" / ")
-                numbers = front.split()
-                assert len(numbers) == 2 + cells(kind, n)
-                found[f"place {kind} {n} / {words(numbers[2:])} / {asked}"] = answer
-    return list(found.items())
-
-
-def records(stream):
-    """The whole records of a stream: mark and body each, up to its stray end and without its voice frames."""
-    n = stream[3]
-    length = {b"PL": n, b"PT": 2, b"DR": 1, b"HO": 2, b"RE": 1, b"RO": 0, b"VF": 11 * n}
-    at, found = 4, []
-    while stream[at:at + 2] in MARKS and at + 2 + length[stream[at:at + 2]] <= len(stream):
-        mark, end = stream[at:at + 2], at + 2 + length[stream[at:at + 2]]
-        if mark != b"VF":
-            found.append((mark, stream[at + 2:end]))
-        at = end
-    return found
-
-
-def order_cases(second, seed, count=60):
-    cases = []
-    for i in range(count):
-        stream = run(second, "gen", seed * 1000 + i, ORDERS)
-        kind, n = stream[2], stream[3]
-        m = cells(kind, n)
-        orders = records(stream)
-        assert 0 < len(orders) <= ORDERS
-        given = stream[:4] + b"".join(mark + body for mark, body in orders)
-        came = run(second, "records", given=given)
-        assert came[:3 + m] == b"OK" + bytes(1 + m)
-        at, answers = 3 + m, []
-        for _ in orders:
-            mark = came[at:at + 2]
-            if mark == b"OK":
-                answers.append(f"moved {came[at + 2]}")
-                at += 3 + m
-            elif mark == b"RA":
-                answers.append(f"rang {words(came[at + 2:at + 2 + n])}")
-                at += 2 + n
-            else:
-                assert mark == b"NO"
-                answers.append(f"NO {words(came[at + 2:at + 5])}")
-                at += 5
-        assert at == len(came)
-        asked = [" ".join([MARKS[mark], *map(str, body)]) for mark, body in orders]
-        cases.append((f"orders {kind} {n} / " + " / ".join(asked), " / ".join(answers)))
-    return cases
+from make_tables import order_cases, place_cases, run, settle_cases
 
 
 def check_cases(second, seed):
@@ -198,8 +95,8 @@ def main():
     print(f"by-hand.txt: {len(by_hand)} lines, {compare_by_hand(second, by_hand)} of them compared with the second program")
     checks = check_cases(second, seed)
     made = {
-        "settings.txt": ("First settings", settle_cases(second, seed)),
-        "places.txt": ("Places", place_cases(second, seed)),
+        "settings.txt": ("First settings", settle_cases(second, seed, 2000, 2300)),
+        "places.txt": ("Places", place_cases(second, seed, 30)),
         "checks.txt": ("Checks of sheets", checks),
         "cabinets.txt": ("Checks of sheets by a cabinet", cabinet_cases(checks)),
         "orders.txt": ("Runs of orders", order_cases(second, seed)),

@@ -5,66 +5,19 @@
 # 20th stream is also fed one byte at a time (its first 4096 bytes). Ends with 1 at the first difference.
 set -u
 if [ $# -lt 1 ]; then sed -n 2,5p "$0" >&2; exit 2; fi
-second=$(cd "$(dirname "$1")" && pwd)/$(basename "$1")
 streams=${2:-200}
 orders=${3:-200}
 first=${4:-1}
-cd "$(dirname "$0")/.." || exit 2
-program=crates/wimbleyam/out/wimbleyam
-for needed in "$second" "$program"; do
-    if [ ! -x "$needed" ]; then echo "streams.sh: $needed is missing" >&2; exit 2; fi
-done
-work=$(mktemp -d) || exit 2
-trap 'rm -rf "$work"' EXIT
+. "$(dirname "$0")/feeding.sh"
 
-# Writes standard input in pieces of 1 to MOST bytes, with a short pause after each.
-pieces() { # MOST SEED
-    perl -e '
-        my ($most, $seed) = @ARGV;
-        srand($seed);
-        binmode(STDIN);
-        binmode(STDOUT);
-        local $/;
-        my $all = <STDIN>;
-        my $at = 0;
-        while ($at < length($all)) {
-            my $take = 1 + int(rand($most));
-            my $done = syswrite(STDOUT, substr($all, $at, $take));
-            exit 0 unless defined $done;
-            $at += $done;
-            select(undef, undef, undef, 0.0001);
-        }
-    ' "$1" "$2"
-}
-
-differ() { # SEED, how it was fed
-    local kept
-    kept=$(mktemp) && cp "$work/stream" "$kept"
-    echo "seed $1: the two programs differ ($2); the stream is kept in $kept"
-    exit 1
-}
-
-declare -A kinds=()
 single=0
 for ((seed = first; seed < first + streams; seed++)); do
-    "$second" gen "$seed" "$orders" >"$work/stream" || exit 2
-    "$second" records <"$work/stream" >"$work/expected" || exit 2
-    kind=$(($(od -An -j2 -N1 -tu1 "$work/stream")))
-    "$program" <"$work/stream" >"$work/answers" || differ "$seed" "its exit status is not 0"
-    cmp -s "$work/expected" "$work/answers" || differ "$seed" "fed as a file"
-    pieces 300 "$seed" <"$work/stream" | "$program" >"$work/answers"
-    cmp -s "$work/expected" "$work/answers" || differ "$seed" "fed in random pieces"
+    stream "$seed"
     if [ $(((seed - first) % 20)) -eq 0 ]; then
         head -c 4096 "$work/stream" >"$work/front"
-        "$second" records <"$work/front" >"$work/expected" || exit 2
-        pieces 1 "$seed" <"$work/front" | "$program" >"$work/answers"
-        cmp -s "$work/expected" "$work/answers" || differ "$seed" "its first 4096 bytes fed one byte at a time"
+        fed "$work/front" 1 "$seed" "its first 4096 bytes fed one byte at a time"
         single=$((single + 1))
     fi
-    kinds[$kind]=$((${kinds[$kind]:-0} + 1))
 done
-for kind in 1 2 3 4 17 18 19 20; do
-    n=${kinds[$kind]:-0}
-    echo "kind $kind: $n streams, $((n * orders)) orders agreed"
-done
+report
 echo "all: $streams streams, $((streams * orders)) orders agreed, seeds $first to $((first + streams - 1)); each also in random pieces, $single also one byte at a time"
