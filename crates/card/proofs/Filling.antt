@@ -1,6 +1,7 @@
 -- A table filled from pairs that break no rule is a plan.
-use Rattle.std.proofs.Common.{◌≡◌, ℕ, ◌+◌, ◌-◌, ◌<◌, ◌≤◌, List, length, get_or, take, set, sym, ◌∙◌, subst, inl, inr, ⊎_elim, arith, length-set}
-use Rattle.std.proofs.lemmas.List.{get_or-take, length-take-le, take_more_same, take-set, get_or-set_same}
+use Rattle.std.proofs.Common.{◌++◌, drop, ◌≡◌, ℕ, ◌+◌, ◌<◌, ◌≤◌, List, length, get_or, take, sym, ◌∙◌, subst, inl, inr, ⊎_elim, arith}
+use Rattle.std.proofs.lemmas.List.{length-append, length-drop, get_or-take, length-take-le}
+use Rattle.std.proofs.Math.Seq.{take-append_seam}
 use Rattle.std.proofs.lemmas.Bool.{cases_lt}
 use Rattle.card.specs.Plans.{Pairs, PlanLaw, Free, Taken, Fine}
 
@@ -23,24 +24,27 @@ filled_law n ps xs some few room same fine =
     record { count = record { some = some; few = few }; room = room; pairs = rw same (fine_pairs n ps fine) }
 
 -- one input more
-pub fill_more : (ps xs : List ℕ) (i : ℕ) → i < length ps → length xs ≡ 16 → i < 16 → take i xs ≡ take i ps → take (i + 1) (set xs i (get_or ps i 0)) ≡ take (i + 1) ps
-fill_more ps xs i h room small same =
-    take_more_same (set xs i (get_or ps i 0)) ps i 0 (simp length-set (omega arith)) h (take-set xs i (get_or ps i 0) ∙ same) (get_or-set_same xs i (get_or ps i 0) 0 (omega arith))
-
 pub fine_more : (n : ℕ) (ps : List ℕ) (i : ℕ) → ((k : ℕ) → k < i → Fine n ps k) → Fine n ps i → (k : ℕ) → k < i + 1 → Fine n ps k
 fine_more n ps i below here k h =
     ⊎_elim (λ low. below k low) (λ high. let z : i ≡ k = omega arith in subst (λ (x : ℕ). Fine n ps x) z here) (cases_lt k i)
 
 -- what is found in the part before an index
 module _ (ps : List ℕ) (i o : ℕ) (inside : i < length ps) where
-  size : length (take (i - 0) ps) ≡ i
-  size = length-take-le (i - 0) ps (omega arith) ∙ omega arith
+  size : length (take i ps) ≡ i
+  size = length-take-le i ps (omega arith) ∙ omega arith
 
-  part_at : (k : ℕ) → k < i → get_or (take (i - 0) ps) k 255 ≡ get_or ps k 255
-  part_at k h = get_or-take (i - 0) ps k 255 (omega arith)
+  part_at : (k : ℕ) → k < i → get_or (take i ps) k 255 ≡ get_or ps k 255
+  part_at k h = get_or-take i ps k 255 (omega arith)
 
-  pub taken_part : Taken (length (take (i - 0) ps)) (take (i - 0) ps) o → Taken i ps o
+  pub taken_part : Taken (length (take i ps)) (take i ps) o → Taken i ps o
   taken_part t = let h : t.by < i = omega (arith, t.inside, size) in record { by = t.by; inside = h; there = sym (part_at t.by h) ∙ t.there }
 
-  pub free_part : Free (length (take (i - 0) ps)) (take (i - 0) ps) o → Free i ps o
+  pub free_part : Free (length (take i ps)) (take i ps) o → Free i ps o
   free_part f k h e = f k (omega (arith, size)) (part_at k h ∙ e)
+
+-- pairs laid over the front of a table
+pub laid_size : (ps xs ys : List ℕ) → xs ≡ ps → length ps ≤ length ys → length (xs ++ drop (length ps) ys) ≡ length ys
+laid_size ps xs ys e h = rw e (simp (length-append, length-drop) (omega arith))
+
+pub laid_front : (ps xs ys : List ℕ) → xs ≡ ps → take (length ps) (xs ++ ys) ≡ ps
+laid_front ps xs ys e = rw e (take-append_seam ps ys)

@@ -1,11 +1,11 @@
 -- The pairs of a plan: what its law says of them, and how they change when one pair is put in or taken out.
-use Rattle.std.proofs.Common.{◌≡◌, ℕ, zero, suc, ◌<◌, ◌≤◌, ◌⊎◌, List, [], ◌∷◌, length, get_or, take, set, replicate, sym, refl, ap, ◌∙◌, inl, inr, ⊎_elim, arith, length-set}
+use Rattle.std.proofs.Common.{◌≡◌, ℕ, zero, suc, ◌<◌, ◌≤◌, ◌⊎◌, List, [], ◌∷◌, length, get_or, take, set, replicate, sym, refl, ap, ◌∙◌, inl, inr, ⊎_elim, arith, length-set, Option, Some, None, is_some, true, false}
+use Rattle.std.proofs.lemmas.Bool.{both_ways, cases_eq}
 use mathlib.Core.Logic.{∥∥₁_elim}
 use native.Mathlib.Bridge.{le_prop}
 use native.Mathlib.Nat.{ℕ_set}
-use Rattle.std.proofs.lemmas.List.{get_or-set_same, get_or-set_other, get_or-take, get_or_past, get_or_default, length-take-le, take-replicate}
-use Rattle.std.proofs.lemmas.Bool.{cases_eq}
-use Rattle.card.specs.Plans.{Pairs, PlanLaw, Free, paired}
+use Rattle.std.proofs.lemmas.List.{get_or-set_same, get_or-set_other, get_or-take, length-take-le, take-replicate}
+use Rattle.card.specs.Plans.{Pairs, PlanLaw, Free, Output, paired}
 
 pub blank : (n i : ℕ) → get_or {A = ℕ} (replicate n 255) i 255 ≡ 255
 blank zero i = refl
@@ -32,12 +32,14 @@ law_apart t i j h k ne e = ∥∥₁_elim t (ℕ_set i j) (λ ok. ok.pairs.apart
 pub law_below : {n : ℕ} {xs : List ℕ} → ∥ PlanLaw n xs ∥₁ → (i : ℕ) → i < n → (get_or (paired n xs) i 255 ≡ 255 → ⊥) → get_or (paired n xs) i 255 < n
 law_below t i h ne = ∥∥₁_elim t le_prop (λ ok. ⊎_elim (λ e. absurd (ne e)) (λ k. k) (ok.pairs.below i h))
 
--- the table at an index that the plan has
-pub at_default : (n : ℕ) (xs : List ℕ) (i : ℕ) → i < n → i < length xs → get_or xs i 0 ≡ get_or (paired n xs) i 255
-at_default n xs i h k = get_or_default xs i 0 255 k ∙ sym (get_or-take n xs i 255 h)
+-- whether an input has an output
+pub is_idle : (ps : List ℕ) (i : ℕ) (o : Option ℕ) → Output ps i o → false ≡ is_some o → get_or ps i 255 ≡ 255
+is_idle ps i None h e = h
+is_idle ps i (Some o) h e = absurd (both_ways false refl e)
 
-pub past : (n : ℕ) (xs : List ℕ) (i : ℕ) → length (paired n xs) ≡ n → n ≤ i → 255 ≡ get_or (paired n xs) i 255
-past n xs i e h = sym (get_or_past (paired n xs) i 255 (omega arith))
+pub is_busy : (ps : List ℕ) (i : ℕ) (o : Option ℕ) → Output ps i o → true ≡ is_some o → get_or ps i 255 ≡ 255 → ⊥
+is_busy ps i None h e z = both_ways false refl (sym e)
+is_busy ps i (Some o) h e z = h.1 (sym h.0 ∙ z)
 
 pub take_set_below : {A : Type 0} (n : ℕ) (xs : List A) (i : ℕ) (v : A) → take n (set xs i v) ≡ set (take n xs) i v
 take_set_below zero [] i v = refl

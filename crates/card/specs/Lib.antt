@@ -1,4 +1,5 @@
 pub mod Faults
+pub mod Words
 pub mod Meaning
 pub mod Settling
 pub mod Placing

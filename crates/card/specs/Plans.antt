@@ -1,5 +1,5 @@
 -- What a plan is, and what its calls answer.
-use Rattle.std.specs.Prelude.{◌≡◌, ℕ, ◌<◌, ◌≤◌, Bool, true, false, ◌⊎◌, List, length, get_or, take, replicate, Ok, Err, Result, ◌≢◌, slice_index_or, slice_set}
+use Rattle.std.specs.Prelude.{◌≡◌, ℕ, ◌<◌, ◌≤◌, Bool, true, false, ◌⊎◌, List, length, get_or, take, replicate, Ok, Err, Result, Option, Some, None, ◌≢◌, slice_index_or, slice_set}
 use Rattle.card.specs.declared.fault.Cause.TheVariants.{NoInput, NoOutput, InputBusy, OutputBusy, InputIdle, WrongLength}
 use Rattle.card.specs.declared.fault.Layer.TheVariants.{Cabinet}
 use Rattle.card.specs.declared.fault.Fault.{Fault}
@@ -25,6 +25,11 @@ pub record PlanLaw (lines : ℕ) (outputs : List ℕ) : Type 0 where
   pub count : Lines lines
   pub room : length outputs ≡ 16
   pub pairs : Pairs lines (paired lines outputs)
+
+-- the output of an input, if it has one
+abbrev pub Output : List ℕ → ℕ → Option ℕ → Type 0
+Output ps i None = slice_index_or ps i none ≡ none
+Output ps i (Some o) = (slice_index_or ps i none ≡ o) × (o ≢ none)
 
 -- one of the first n inputs has this output
 pub record Taken (n : ℕ) (ps : List ℕ) (o : ℕ) : Type 0 where

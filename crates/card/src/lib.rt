@@ -56,9 +56,10 @@ pub trait Card {
                 place: 0,
             });
         }
-        for cell in 0..cells {
+        for (i, &position) in setting.iter().enumerate() {
+            let cell = i as u8;
             let positions = self.positions(cell)?;
-            if setting[cell as usize] >= positions {
+            if position >= positions {
                 return Err(Fault {
                     cause: Cause::SheetPosition,
                     layer: Layer::Card,
@@ -98,17 +99,14 @@ pub trait Card {
                 place: 0,
             });
         }
-        for cell in 0..cells {
-            let hold = holds[cell as usize];
-            if hold != NONE {
-                let positions = self.positions(cell)?;
-                if hold >= positions {
-                    return Err(Fault {
-                        cause: Cause::NoPosition,
-                        layer: Layer::Card,
-                        place: cell,
-                    });
-                }
+        for (i, &hold) in holds.iter().enumerate() {
+            let cell = i as u8;
+            if hold != NONE && hold >= self.positions(cell)? {
+                return Err(Fault {
+                    cause: Cause::NoPosition,
+                    layer: Layer::Card,
+                    place: cell,
+                });
             }
         }
         Ok(())

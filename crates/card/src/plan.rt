@@ -1,7 +1,6 @@
 // A plan: for each input its output, or idle.
-ghost use Rattle.std.specs.Prelude.{◌≡◌, ℕ, length, Ok, Err, slice_index_or};
-ghost use Rattle.card.specs.Settling.{none};
-ghost use Rattle.card.specs.Plans.{paired, PlanLaw, Found, Idle, NotIdle, Filled, Patched, Dropped};
+ghost use Rattle.std.specs.Prelude.{◌≡◌, Ok, Err};
+ghost use Rattle.card.specs.Plans.{paired, Output, PlanLaw, Found, Idle, NotIdle, Filled, Patched, Dropped};
 
 use crate::NONE;
 use crate::fault::{Cause, Fault, Layer};
@@ -46,15 +45,12 @@ impl Plan {
         self.outputs
     }
 
-    // The output of an input, or `NONE` where it has none.
-    pub fn output(&self, input: u8) -> u8
-        ensures { result ≡ slice_index_or (paired self.now.lines self.now.outputs) input none }
+    // The output of an input, if it has one.
+    pub fn output(&self, input: u8) -> Option<u8>
+        ensures { Output (paired self.now.lines self.now.outputs) input result }
     {
-        if input < self.lines {
-            self.outputs[input as usize]
-        } else {
-            NONE
-        }
+        let output = *self.outputs[..self.lines as usize].get(input as usize)?;
+        (output != NONE).then_some(output)
     }
 
     // Writes the plan whole, from an output or `NONE` for each input.
@@ -69,9 +65,7 @@ impl Plan {
                 place: 0,
             });
         }
-        let mut outputs = [NONE; 16];
-        for i in 0..lines {
-            let output = pairs[i];
+        for (i, &output) in pairs.iter().enumerate() {
             if output != NONE {
                 if output as usize >= lines {
                     return Err(Fault {
@@ -80,7 +74,7 @@ impl Plan {
                         place: i as u8,
                     });
                 }
-                if used(&pairs[0..i], output) {
+                if pairs[..i].contains(&output) {
                     return Err(Fault {
                         cause: Cause::OutputBusy,
                         layer: Layer::Cabinet,
@@ -88,8 +82,9 @@ impl Plan {
                     });
                 }
             }
-            outputs[i] = output;
         }
+        let mut outputs = [NONE; 16];
+        outputs[..lines].copy_from_slice(pairs);
         *self = Plan {
             lines: lines as u8,
             outputs,
@@ -101,12 +96,7 @@ impl Plan {
     fn taken(&self, output: u8) -> bool
         ensures { Found self.now.lines (paired self.now.lines self.now.outputs) output result }
     {
-        for i in 0..self.lines {
-            if self.output(i) == output {
-                return true;
-            }
-        }
-        false
+        self.outputs[..self.lines as usize].contains(&output)
     }
 
     // Puts an idle input through to an idle output.
@@ -128,7 +118,7 @@ impl Plan {
                 place: input,
             });
         }
-        if self.output(input) != NONE {
+        if self.output(input).is_some() {
             return Err(Fault {
                 cause: Cause::InputBusy,
                 layer: Layer::Cabinet,
@@ -158,7 +148,7 @@ impl Plan {
                 place: input,
             });
         }
-        if self.output(input) == NONE {
+        if self.output(input).is_none() {
             return Err(Fault {
                 cause: Cause::InputIdle,
                 layer: Layer::Cabinet,
@@ -168,16 +158,4 @@ impl Plan {
         self.outputs[input as usize] = NONE;
         Ok(())
     }
-}
-
-// Whether an output is among these.
-fn used(outputs: &[u8], output: u8) -> bool
-    ensures { Found (length outputs.now) outputs.now output result }
-{
-    for x in outputs {
-        if *x == output {
-            return true;
-        }
-    }
-    false
 }

@@ -1,5 +1,5 @@
 -- How a setting of columns 1 to j rests on one of columns 1 to j - 1.
-use Rattle.std.proofs.Common.{◌≡◌, ℕ, zero, suc, ◌-◌, ◌<◌, ◌≤◌, List, ◌∷◌, length, get_or, drop, sym, ap, ◌∙◌, ⊎_elim, arith}
+use Rattle.std.proofs.Common.{MatchOption, Option, Some, None, ◌≡◌, ℕ, zero, suc, ◌-◌, ◌<◌, ◌≤◌, List, ◌∷◌, length, get_or, drop, sym, ap, ◌∙◌, ⊎_elim, arith}
 use Rattle.std.proofs.lemmas.List.{get_or_default}
 use Rattle.std.proofs.lemmas.Bool.{cases_lt}
 use Rattle.card.specs.Settling.{none, Fits, Carries}
@@ -9,6 +9,11 @@ use Rattle.column.specs.Serving.{Pulled, Blocked, Unserved, Served}
 use Rattle.column.specs.Travelling.{Ranged, tail_of, through_above, through_within}
 use Rattle.column.specs.Turning.{turned_apart}
 use Rattle.column.specs.Soundness.{ranged}
+
+-- an option's cases, each from another
+pub cases_map : {A : Type 0} (o : Option A) (P P' : Type 0) (Q Q' : A → Type 0) → (P → P') → ((a : A) → Q a → Q' a) → MatchOption o P Q → MatchOption o P' Q'
+cases_map (Some a) P P' Q Q' f h x = h a x
+cases_map None P P' Q Q' f h x = f x
 
 -- after all columns, all cells are passed
 whole : (lead : ℕ → ℕ → ℕ → ℕ) (j : ℕ) (l : List ℕ) (i : ℕ) → through lead (drop (j - j) l) i ≡ through lead l i

@@ -36,9 +36,9 @@ impl<F: Leaders + Drop> ColumnCard<F> {
 
     // The kind number of the card.
     pub fn kind(&self) -> u8
-        ensures { result ≡ F.Leaders.number }
+        ensures { result ≡ F.Leaders.KIND }
     {
-        self.family.number()
+        F::KIND
     }
 }
 
@@ -75,7 +75,7 @@ impl<F: Leaders> Card for ColumnCard<F> {
         self.check_place(setting, input, passed)?;
         let mut line = input;
         for column in 1..passed + 1 {
-            // The last cell is column 1.
+            // An index loop: columns count from 1 and cells from the last, so that the number is wanted for both.
             let cell = self.cells() - column;
             line = turn(&self.family, setting[cell as usize], column, line);
         }

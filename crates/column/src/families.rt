@@ -15,15 +15,11 @@ pub struct Bbc;
 impl Leaders for Klw {
     const KIND: u8 = 1;
 
-    ghost number = { 1 };
+    ghost KIND = { 1 };
 
     ghost lead = { klw };
 
     ghost leading = { Prim.search rules };
-
-    fn number(&self) -> u8 {
-        Self::KIND
-    }
 
     fn lead(&self, target: u8, column: u8, line: u8) -> u8 {
         if line == column {
@@ -39,15 +35,11 @@ impl Leaders for Klw {
 impl Leaders for Bbc {
     const KIND: u8 = 2;
 
-    ghost number = { 2 };
+    ghost KIND = { 2 };
 
     ghost lead = { bbc };
 
     ghost leading = { Prim.search rules };
-
-    fn number(&self) -> u8 {
-        Self::KIND
-    }
 
     fn lead(&self, target: u8, column: u8, line: u8) -> u8 {
         if line == column {

@@ -6,14 +6,10 @@ pub trait Leaders {
     // The kind number of the family's cards.
     const KIND: u8;
 
-    ghost number: { ℕ };
+    ghost KIND: { ℕ };
 
     // By target, column and line.
     ghost lead: { ℕ → ℕ → ℕ → ℕ };
-
-    // The kind number of the family's cards.
-    fn number(&self) -> u8
-        ensures { result ≡ number };
 
     // Where the leader of a column with this target sends a line.
     fn lead(&self, target: u8, column: u8, line: u8) -> u8

@@ -11,12 +11,7 @@ use card::NONE;
 fn back<F: Leaders>(family: &F, position: u8, column: u8, output: u8) -> Option<u8>
     ensures { MatchOption result ((p : ℕ) → p < column → turned F.Leaders.lead position column p ≢ output) (λ p. (p < column) × (turned F.Leaders.lead position column p ≡ output)) }
 {
-    for line in 0..column {
-        if turn(family, position, column, line) == output {
-            return Some(line);
-        }
-    }
-    None
+    (0..column).find(|line| turn(family, position, column, *line) == output)
 }
 
 // The pairs that are left for the columns before this one, if it stands at this position.
@@ -25,13 +20,9 @@ fn pull<F: Leaders>(family: &F, position: u8, column: u8, outputs: [u8; 16]) -> 
     ensures { MatchOption result (Blocked F.Leaders.lead position column outputs) (λ rest. Pulled F.Leaders.lead position column outputs rest) }
 {
     let mut rest = [NONE; 16];
-    for i in 0..column {
-        let output = outputs[i as usize];
+    for (i, &output) in outputs[..column as usize].iter().enumerate() {
         if output != NONE {
-            match back(family, position, column, output) {
-                Some(line) => rest[i as usize] = line,
-                None => return None,
-            }
+            rest[i] = back(family, position, column, output)?;
         }
     }
     Some(rest)
@@ -74,10 +65,10 @@ fn seek<F: Leaders>(
         return outputs[0] == NONE || outputs[0] == 0;
     }
     let cell = setting.len() - column as usize;
-    for position in 0..column + 1 {
+    for position in 0..=column {
         let fits = match serve(family, position, column, outputs, holds[cell]) {
-            Some(rest) if seek(family, column - 1, rest, holds, setting) => true,
-            _ => false,
+            Some(rest) => seek(family, column - 1, rest, holds, setting),
+            None => false,
         };
         if fits {
             setting[cell] = position;

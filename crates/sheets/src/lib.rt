@@ -1,26 +1,27 @@
 // The check of another house's sheet: a setting for the same pairs and holds.
 #![tactic(auto)]
 
-ghost use Rattle.std.specs.Prelude.{◌≡◌, length, slice_index_or};
+ghost use Rattle.std.specs.Prelude.{◌≡◌, Some, length, slice_index_or};
 ghost use Rattle.card.specs.declared.fault.Layer.TheVariants.{Cabinet};
 ghost use Rattle.card.specs.Faults.{fault};
 ghost use Rattle.card.specs.Meaning.{Lawful};
 ghost use Rattle.card.specs.PlanPairs.{pairs_of};
 ghost use Rattle.card.specs.Settling.{none};
-ghost use Rattle.sheets.specs.Verdicts.{verdict_number};
+ghost use Rattle.sheets.specs.Verdicts.{verdict_number, verdict_words};
 ghost use Rattle.sheets.specs.Checking.{PositionsChecked, HoldsChecked, PairsChecked, Compared};
 
 use card::fault::{Cause, Fault, Layer};
 use card::plan::Plan;
 use card::{Card, NONE};
+use std::fmt;
 
 // What a sheet that fits is.
 #[derive(Clone, Copy, PartialEq, Eq, Debug)]
 pub enum Verdict {
     // the standing setting
-    First,
+    First = 0,
     // another setting, and the standing one comes first
-    Other,
+    Other = 1,
 }
 
 impl Verdict {
@@ -28,10 +29,19 @@ impl Verdict {
     pub fn number(&self) -> u8
         ensures { result ≡ verdict_number self.now }
     {
-        match self {
-            Verdict::First => 0,
-            Verdict::Other => 1,
-        }
+        *self as u8
+    }
+}
+
+// The verdict in words.
+impl fmt::Display for Verdict {
+    ghost output = { λ v. Some (verdict_words v) };
+
+    fn fmt<W: fmt::Write>(&self, f: &mut fmt::Formatter<W>) -> fmt::Result {
+        f.write_str(match self {
+            Verdict::First => "the sheet fits and comes first",
+            Verdict::Other => "the sheet fits, but another setting comes first",
+        })
     }
 }
 
@@ -50,21 +60,15 @@ fn refusal(cause: Cause, place: u8) -> Fault
 fn held(holds: &[u8], cell: u8) -> u8
     ensures { result ≡ slice_index_or holds.now cell none }
 {
-    if (cell as usize) < holds.len() {
-        holds[cell as usize]
-    } else {
-        NONE
-    }
+    holds.get(cell as usize).copied().unwrap_or(NONE)
 }
 
 // Whether the sheet has a position for each cell, each in its range. The card's own checks, with the check's layer.
 fn check_positions<C: Card>(card: &C, sheet: &[u8]) -> Result<(), Fault>
     ensures { PositionsChecked (C.Card.meaning card.now) sheet.now result }
 {
-    match card.check_place(sheet, 0, 0) {
-        Ok(()) => Ok(()),
-        Err(fault) => Err(refusal(fault.cause, fault.place)),
-    }
+    card.check_place(sheet, 0, 0)
+        .map_err(|fault| refusal(fault.cause, fault.place))
 }
 
 // Whether every held cell has its held position.
@@ -73,6 +77,7 @@ fn check_holds<C: Card>(card: &C, holds: &[u8], sheet: &[u8]) -> Result<(), Faul
     ensures { HoldsChecked (C.Card.meaning card.now) holds.now sheet.now result }
 {
     let cells = card.cells();
+    // An index loop: the cell is the place of a refusal, and the holds may be fewer than the cells.
     for cell in 0..cells {
         let hold = held(holds, cell);
         if hold != NONE && sheet[cell as usize] != hold {
@@ -90,8 +95,7 @@ fn check_pairs<C: Card>(card: &C, plan: &Plan, sheet: &[u8]) -> Result<(), Fault
     let columns = card.columns();
     let lines = card.lines();
     for input in 0..lines {
-        let output = plan.output(input);
-        if output != NONE {
+        if let Some(output) = plan.output(input) {
             let place = card.place(sheet, input, columns)?;
             if place != output {
                 return Err(refusal(Cause::SheetPair, input));

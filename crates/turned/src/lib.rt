@@ -89,10 +89,10 @@ mod tests {
         plan.fill(&[2, NONE, 3, 0])?;
         let over = turned_over(&plan);
         assert_eq!(rt; over.lines(), 4);
-        assert_eq!(rt; over.output(0), 3);
-        assert_eq!(rt; over.output(1), NONE);
-        assert_eq!(rt; over.output(2), 0);
-        assert_eq!(rt; over.output(3), 2);
+        assert_eq!(rt; over.output(0), Some(3));
+        assert_eq!(rt; over.output(1), None);
+        assert_eq!(rt; over.output(2), Some(0));
+        assert_eq!(rt; over.output(3), Some(2));
         Ok(())
     }
 }

@@ -2,7 +2,6 @@
 ghost use Rattle.card.specs.PlanPairs.{pairs_of};
 ghost use Rattle.turned.specs.TurnedOver.{TurnedOver, CarriedAlike};
 
-use card::NONE;
 use card::plan::Plan;
 
 // The plan that takes each output back to its input. Every plan has one.
@@ -13,8 +12,7 @@ pub fn turned_over(plan: &Plan) -> Plan
     let lines = plan.lines();
     let mut over = Plan::idle(lines).unwrap();
     for input in 0..lines {
-        let output = plan.output(input);
-        if output != NONE {
+        if let Some(output) = plan.output(input) {
             over.patch(output, input).unwrap();
         }
     }

@@ -17,13 +17,13 @@ returns-then-place-output g c =
     (Unfitting.wrong_pair c.requires keeps c.loop-input.input
     (record {
       inside = omega (arith, c.lines-lines.ensures);
-      busy = λ z. c.if-output.true (c.output-output.ensures ∙ z);
+      busy = λ z. c.in-Some.ensures.1 (sym c.in-Some.ensures.0 ∙ z);
       elsewhere =
           λ z.
           c.if-place-output.true
           (c.in_ok-place.ensures.1
           ∙ ap (λ (s : ℕ). (g.C.Card.meaning c.args.card.now).place c.args.sheet.now c.loop-input.input s) c.columns-columns.ensures
           ∙ z
-          ∙ sym c.output-output.ensures);
+          ∙ c.in-Some.ensures.0);
       lowest = c.loop-input.invariant;
     }))

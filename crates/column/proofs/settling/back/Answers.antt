@@ -1,15 +1,15 @@
--- No line before this one goes to the output; this one does, or is one more that does not.
-use Rattle.std.proofs.Common.{sym, ◌∙◌, arith, below_more}
+-- The first line that goes to the output, as the search over the lines answers it.
+use Rattle.std.proofs.Common.{rules, ◌≡◌, ◌≢◌, ℕ, ◌<◌, ◌≤◌, Option, MatchOption, arith}
+use Rattle.std.proofs.lemmas.Iterator.{first_from_Range}
+use Rattle.column.specs.Passing.{turned}
+use Rattle.column.proofs.Stepping.{cases_map}
 use Rattle.column.proofs.settling.back.Goals as goal
 
-pub loop-line-init : goal.loop-line-init
-loop-line-init g c p lt e = omega arith
-
-pub returns-then-turn-output : goal.returns-then-turn-output
-returns-then-turn-output g c = (c.loop-line-test.true, sym c.turn.ensures ∙ c.if-turn-output.true)
-
-pub loop-line-preserved : goal.loop-line-preserved
-loop-line-preserved g c = below_more _ _ c.loop-line.invariant (λ e. c.if-turn-output.false (c.turn.ensures ∙ e))
+found : (at : ℕ → ℕ) (n o : ℕ) (r : Option ℕ) → MatchOption r ((k : ℕ) → 0 ≤ k → k < n → at k ≢ o) (λ i. (0 ≤ i) × (i < n) × (at i ≡ o) × ((k : ℕ) → 0 ≤ k → k < i → at k ≢ o)) → MatchOption r ((p : ℕ) → p < n → at p ≢ o) (λ p. (p < n) × (at p ≡ o))
+found at n o r = cases_map r _ _ _ _ (λ none p h. none p (omega arith) h) (λ p h. (h.1, h.2))
 
 pub returns : goal.returns
-returns g c p lt e = c.loop-line.invariant p (omega arith) e
+returns g c =
+    let at = turned g.F.Leaders.lead c.args.position c.args.column in
+    found at c.args.column c.args.output _
+    (first_from_Range _ _ _ _ (λ p. at p ≡ c.args.output) (λ p. at p ≢ c.args.output) c.find.ensures.ran (λ p q h. search rules) (λ p q h. search rules))

@@ -11,4 +11,4 @@ pub record Pulling (lead : ℕ → ℕ → ℕ → ℕ) (position column i : ℕ
   pub idle : (d : ℕ) → i ≤ d → d < 16 → get_or rest d 0 ≡ none
 
 abbrev pub invariant-loop-i : goal.invariant-loop-i
-invariant-loop-i g l = Pulling g.F.Leaders.lead l.position l.column l.i l.outputs l.rest
+invariant-loop-i g l = Pulling g.F.Leaders.lead l.position l.column l.i l.fn.outputs l.rest

@@ -1,12 +1,8 @@
 -- A position serves, or the hold, its own line or another line rules it out.
-use Rattle.std.proofs.Common.{◌-◌, Some, None, Option, sym, ◌∙◌, ⊎_elim, arith, MatchOption}
-use Rattle.column.proofs.Stepping.{unheld, unsent, blocked, served}
+use Rattle.std.proofs.Common.{◌-◌, sym, ◌∙◌, ⊎_elim, arith}
+use Rattle.column.proofs.Stepping.{cases_map, unheld, unsent, blocked, served}
 use Rattle.column.proofs.settling.serve.Goals as goal
 use Rattle.column.proofs.settling.serve.Goals.{else-wanted-via-then-wanted+else-turn-wanted, else-wanted-via-else-wanted}
-
-cases_map : {A : Type 0} (o : Option A) (P P' : Type 0) (Q Q' : A → Type 0) → (P → P') → ((a : A) → Q a → Q' a) → MatchOption o P Q → MatchOption o P' Q'
-cases_map (Some a) P P' Q Q' f h x = h a x
-cases_map None P P' Q Q' f h x = f x
 
 pub returns-then-hold-position : goal.returns-then-hold-position
 returns-then-hold-position g c =

@@ -7,7 +7,7 @@ use Rattle.turned.proofs.Inverting.{Turning, turning_none, turning_idle, never_r
 use Rattle.turned.proofs.Carrying.{carried_alike, plan_low}
 use Rattle.turned.proofs.Refusals.{idled_ok, idled_is, patched_ok, patched_is}
 use Rattle.turned.proofs.over.turned_over.Goals as goal
-use Rattle.turned.proofs.over.turned_over.Goals.{then-output, else-output}
+use Rattle.turned.proofs.over.turned_over.Goals.{in-Some, in_default}
 
 pub unwrap-over-requires : goal.unwrap-over-requires
 unwrap-over-requires c =
@@ -26,28 +26,28 @@ pub unwrap-requires : goal.unwrap-requires
 unwrap-requires c =
     let law = c.args.plan.now.lawful in
     let inside : c.loop-input.input < c.args.plan.now.lines = omega (arith, c.lines-lines.ensures) in
-    patched_ok c.loop-input.over.lines (pairs_of c.loop-input.over) (pairs_of c.patch.new.self) c.output-output.result c.loop-input.input c.patch.result
+    patched_ok c.loop-input.over.lines (pairs_of c.loop-input.over) (pairs_of c.patch.new.self) c.in-Some.output c.loop-input.input c.patch.result
     (never_refused c.args.plan.now.lines c.loop-input.input (pairs_of c.args.plan.now) (pairs_of c.loop-input.over) (law_few law) inside
-    (law_below law c.loop-input.input inside (λ z. c.if-output.true (c.output-output.ensures ∙ z))) (law_apart law) c.loop-input.invariant.1
-    c.loop-input.over.lines c.output-output.result c.loop-input.invariant.0 c.output-output.ensures)
+    (law_below law c.loop-input.input inside (λ z. c.in-Some.ensures.1 (sym c.in-Some.ensures.0 ∙ z))) (law_apart law) c.loop-input.invariant.1
+    c.loop-input.over.lines c.in-Some.output c.loop-input.invariant.0 (sym c.in-Some.ensures.0))
     c.patch.ensures.pairs
 
 pub loop-input-preserved : goal.loop-input-preserved
 loop-input-preserved c =
     let law = c.args.plan.now.lawful in
     let inside : c.loop-input.input < c.args.plan.now.lines = omega (arith, c.lines-lines.ensures) in
-    elim c.if-output.branch [
-      | then-output w ↦
-          let put = patched_is c.loop-input.over.lines (pairs_of c.loop-input.over) (pairs_of w.patch.new.self) c.output-output.result c.loop-input.input w.patch.result w.unwrap.result w.unwrap.ensures w.patch.ensures.pairs in (
+    elim c.match-output.branch [
+      | in-Some w ↦
+          let put = patched_is c.loop-input.over.lines (pairs_of c.loop-input.over) (pairs_of w.patch.new.self) w.in-Some.output c.loop-input.input w.patch.result w.unwrap.result w.unwrap.ensures w.patch.ensures.pairs in (
             ap (λ (p : Plan). p.lines) w.over-is ∙ w.patch.ensures.lines ∙ c.loop-input.invariant.0,
             turning_more c.args.plan.now.lines c.loop-input.input (pairs_of c.args.plan.now) (pairs_of c.loop-input.over) (law_few law) inside
-                (law_below law c.loop-input.input inside (λ z. w.if-output.true (c.output-output.ensures ∙ z))) (law_apart law) c.loop-input.invariant.1
-                c.output-output.result (pairs_of c.if-output.over) c.output-output.ensures (ap pairs_of w.over-is ∙ put),
+                (law_below law c.loop-input.input inside (λ z. w.in-Some.ensures.1 (sym w.in-Some.ensures.0 ∙ z))) (law_apart law) c.loop-input.invariant.1
+                w.in-Some.output (pairs_of c.match-output.over) (sym w.in-Some.ensures.0) (ap pairs_of w.over-is ∙ put),
           )
-      | else-output w ↦ (
+      | in_default w ↦ (
         ap (λ (p : Plan). p.lines) w.over-is ∙ c.loop-input.invariant.0,
         subst (λ (l : List ℕ). Turning c.args.plan.now.lines (c.loop-input.input + 1) (pairs_of c.args.plan.now) l) (sym (ap pairs_of w.over-is))
-            (turning_idle c.args.plan.now.lines c.loop-input.input (pairs_of c.args.plan.now) (pairs_of c.loop-input.over) (law_few law) (sym c.output-output.ensures ∙ w.if-output.false) c.loop-input.invariant.1),
+            (turning_idle c.args.plan.now.lines c.loop-input.input (pairs_of c.args.plan.now) (pairs_of c.loop-input.over) (law_few law) w.in_default.ensures c.loop-input.invariant.1),
       )
     ]
 

@@ -1,14 +1,14 @@
-use Rattle.std.proofs.Common.{sym, refl, ◌∙◌, inl, arith}
+use Rattle.std.proofs.Common.{rules, refl, inl, arith}
 use mathlib.Core.Logic.{∥∥₁_map}
 use Rattle.card.specs.Plans.{Undroppable}
-use Rattle.card.proofs.Pairing.{law_few, put_law, take_set_below}
+use Rattle.card.proofs.Pairing.{law_few, put_law, take_set_below, is_idle, is_busy}
 use Rattle.card.proofs.plan.Plan.drop.Goals as goal
 
 pub returns-then-input-self : goal.returns-then-input-self
 returns-then-input-self c = record { pairs = (Undroppable.no_input c.if-input-self.true, refl); lines = refl }
 
-pub returns-then-output : goal.returns-then-output
-returns-then-output c = record { pairs = (Undroppable.idle_input c.if-input-self.false (sym c.output.ensures ∙ c.if-output.true), refl); lines = refl }
+pub returns-then-is_none : goal.returns-then-is_none
+returns-then-is_none c = record { pairs = (Undroppable.idle_input c.if-input-self.false (is_idle _ c.args.input _ c.output.ensures (search rules)), refl); lines = refl }
 
 pub bounds-self-input : goal.bounds-self-input
 bounds-self-input c = omega (arith, law_few c.args.self.now.lawful)
@@ -19,6 +19,6 @@ invariant_of-self c = record { lawful = ∥∥₁_map c.args.self.now.lawful (pu
 pub returns : goal.returns
 returns c =
     record {
-      pairs = (record { input = c.if-input-self.false; busy = λ z. c.if-output.false (c.output.ensures ∙ z) }, take_set_below c.args.self.now.lines c.args.self.now.outputs c.args.input 255);
+      pairs = (record { input = c.if-input-self.false; busy = is_busy _ c.args.input _ c.output.ensures (search rules) }, take_set_below c.args.self.now.lines c.args.self.now.outputs c.args.input 255);
       lines = refl;
     }
