@@ -1,16 +1,15 @@
 -- What the calls of a cabinet have in common.
-use Rattle.std.proofs.Common.{◌≡◌, ℕ, ◌+◌, ◌<◌, List, length, get_or, take, set, Ok, Err, sym, refl, ap, ◌∙◌, subst, ⊎_elim, arith}
+use Rattle.std.proofs.Common.{◌≡◌, ℕ, ◌+◌, ◌<◌, List, length, get_or, take, set, Ok, Err, Result, MatchResult, IsErrAnd, sym, refl, ap, ◌∙◌, subst, ⊎_elim, arith}
 use Rattle.std.proofs.lemmas.List.{get_or-set_same, get_or-set_other, get_or-take, get_or_default}
 use Rattle.std.proofs.lemmas.Bool.{cases_eq}
 use Rattle.card.specs.declared.fault.Fault.{Fault}
 use Rattle.card.specs.Meaning.{Meaning, Sound}
 use Rattle.card.specs.Settling.{none}
 use Rattle.cabinet.specs.declared.State.{State}
-use Rattle.cabinet.specs.declared.Resettled.{Resettled}
 use Rattle.cabinet.specs.declared.Cabinet.{Cabinet}
 use Rattle.cabinet.specs.Orders.{Order, wanted, Clear, Broken}
 use Rattle.cabinet.specs.Logs.{Standing, placed}
-use Rattle.cabinet.specs.States.{standing, SettledAnew, Ordered, Ready}
+use Rattle.cabinet.specs.States.{standing, Adopted, Ordered, Ready}
 use Rattle.cabinet.proofs.Steady.{broken, done, unsettled}
 
 -- what holds of each element below an index still does with one more written
@@ -40,8 +39,13 @@ module _ {C : Type 0} (meaning : C → Meaning) (sound : (c : C) → Sound (mean
     same_setting : (standing means next).setting ≡ stood.setting
     same_setting = ap (λ (l : List ℕ). take means.cells l) setting
 
-    pub order_done : (v : Resettled) → SettledAnew means next (Ok v) → Ordered meaning b o (Ok v.moved) (record { card = b.card; state = v.state })
-    order_done v settles = record { card = refl; unchanged = tt; log = done means (sound b.card) stood (standing means next) o force clear same_setting (standing means v.state) v.moved settles }
+    -- the state taken over, with the card's refusal as it is
+    pub order_adopted : (r : Result ℕ Fault) (a : Cabinet C) → ((e : Fault) → e ≡ placed o e) → Adopted meaning b next r a → Ordered meaning b o r a
+    order_adopted (Ok n) a plain w = record { card = w.0; unchanged = tt; log = done means (sound b.card) stood (standing means next) o force clear same_setting (standing means a.state) n w.1 }
+    order_adopted (Err e) a plain w = record { card = ap (λ (x : Cabinet C). x.card) w.0; unchanged = w.0; log = rw w.0 (unsettled means (sound b.card) stood (standing means next) o force clear same_setting e e (plain e) w.1) }
 
-    pub order_unsettled : (e d : Fault) → e ≡ placed o d → SettledAnew means next (Err d) → Ordered meaning b o (Err e) b
-    order_unsettled e d told refuses = record { card = refl; unchanged = refl; log = unsettled means (sound b.card) stood (standing means next) o force clear same_setting e d told refuses }
+    -- the same, with the place in the card's refusal replaced
+    pub order_placed : (r t : Result ℕ Fault) (a : Cabinet C) (Says : Fault → Fault → Type 0) → ((e d : Fault) → Says e d → d ≡ placed o e) → Adopted meaning b next r a → MatchResult r (λ n. t ≡ Ok n) (λ e. IsErrAnd t (Says e)) → Ordered meaning b o t a
+    order_placed (Ok n) t a Says says w e = rw e (record { card = w.0; unchanged = tt; log = done means (sound b.card) stood (standing means next) o force clear same_setting (standing means a.state) n w.1 })
+    order_placed (Err e) (Ok n) a Says says w h = absurd h
+    order_placed (Err e) (Err d) a Says says w h = record { card = ap (λ (x : Cabinet C). x.card) w.0; unchanged = w.0; log = rw w.0 (unsettled means (sound b.card) stood (standing means next) o force clear same_setting d e (says e d h) w.1) }

@@ -1,5 +1,5 @@
 -- From what a card settles in the part of a buffer that it has cells for, to what then stands in the cabinet.
-use Rattle.std.proofs.Common.{◌≡◌, ℕ, ◌+◌, ◌≤◌, List, ◌++◌, length, get_or, take, Err, refl, ◌∙◌, subst, add-one, arith, eq-eqb, ne_eqb}
+use Rattle.std.proofs.Common.{get_or, add-one, eq-eqb, ne_eqb, ◌≡◌, ℕ, ◌+◌, ◌≤◌, List, ◌++◌, length, take, Err, refl, ◌∙◌, subst, arith}
 use Rattle.std.proofs.lemmas.List.{take_at, length-take-le}
 use Rattle.card.specs.declared.fault.Fault.{Fault}
 use Rattle.card.specs.Meaning.{Meaning}
@@ -7,17 +7,23 @@ use Rattle.card.specs.PlanPairs.{pairs_of}
 use Rattle.card.specs.Settling.{First, Settleable, Refusal}
 use Rattle.cabinet.specs.declared.State.{State}
 use Rattle.cabinet.specs.Logs.{moved}
-use Rattle.cabinet.specs.States.{standing, Settles, SettledAnew}
+use Rattle.cabinet.specs.States.{standing, Settles, Settling}
 
 pub moved_same : (n : ℕ) (a b : List ℕ) → get_or a n 0 ≡ get_or b n 0 → moved (n + 1) a b ≡ moved n a b
 moved_same n a b e = rw (add-one, eq-eqb (get_or a n 0) (get_or b n 0) e) (omega arith)
 
 pub moved_more : (n : ℕ) (a b : List ℕ) → (get_or a n 0 ≡ get_or b n 0 → ⊥) → moved (n + 1) a b ≡ moved n a b + 1
-moved_more n a b e = rw (add-one, ne_eqb (get_or a n 0) (get_or b n 0) e)
+moved_more n a b e = rw (add-one, ne_eqb (get_or a n 0) (get_or b n 0) e) (omega arith)
 
 module _ (m : Meaning) (s : State) (k : ℕ) (size : k ≡ m.cells) (wide : length s.setting ≡ 64) (few : m.cells ≤ 64) where
-  pub settle_refused : (e : Fault) → Refusal m (pairs_of s.plan) (take k s.holds) (take k s.setting) e → SettledAnew m s (Err e)
+  pub settle_refused : (e : Fault) → Refusal m (pairs_of s.plan) (take k s.holds) (take k s.setting) e → Settling m (standing m s) (Err e) (standing m s).setting
   settle_refused e why = (subst (λ (j : ℕ). Refusal m (pairs_of s.plan) (take j s.holds) (take j s.setting) e) size why, refl)
+
+  -- the cells of a setting laid over the front of the table
+  pub settled_size : (new rest : List ℕ) → length new ≡ length (take k s.setting) → length (take k (new ++ rest)) ≡ k
+  settled_size new rest long =
+      let lk : length (take k s.setting) ≡ k = length-take-le k s.setting (omega arith) in
+      rw (take_at new rest k (long ∙ lk)) (long ∙ lk)
 
   pub settle_done : (new rest : List ℕ) (n : ℕ) → length new ≡ length (take k s.setting) → Settleable m (pairs_of s.plan) (take k s.holds) (take k s.setting) × First m (pairs_of s.plan) (take k s.holds) new → n ≡ moved (length (take k s.setting)) (take k s.setting) (take k (new ++ rest)) → Settles m (standing m s) (standing m (record { plan = s.plan; holds = s.holds; setting = new ++ rest })) n
   settle_done new rest n long first count =

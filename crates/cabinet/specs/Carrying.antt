@@ -32,11 +32,6 @@ abbrev pub Carried : {P : Type 0} → P → Meaning → Standing → List P → 
 Carried silent m s given before out (Ok x) = Went silent m s given (length before) out
 Carried silent m s given before out (Err e) = (out ≡ before) × FollowsCarry m s (length given) (length before) (Err e)
 
--- what a carry to the front of a table answers: the outputs, and what was past the last line
-abbrev pub CarriedFront : {P : Type 0} → P → Meaning → Standing → List P → List P → List P → Result (Unit {0}) Fault → Type 0
-CarriedFront silent m s given before after (Ok x) = Went silent m s given m.lines (take m.lines after) × (drop m.lines after ≡ drop m.lines before)
-CarriedFront silent m s given before after (Err e) = FollowsCarry m s (length given) m.lines (Err e)
-
 -- what a carry into a table of its own answers: the outputs, and silence past the last line
 abbrev pub CarriedOut : {P : Type 0} → P → Meaning → Standing → List P → Result (List P) Fault → Type 0
 CarriedOut silent m s given (Ok table) = Went silent m s given m.lines (take m.lines table) × (drop m.lines table ≡ replicate (16 - m.lines) silent)

@@ -5,7 +5,6 @@ use Rattle.card.specs.Meaning.{Meaning}
 use Rattle.card.specs.PlanPairs.{pairs_of}
 use Rattle.card.specs.Settling.{Settled, First, Holdable}
 use Rattle.cabinet.specs.declared.State.{State}
-use Rattle.cabinet.specs.declared.Resettled.{Resettled}
 use Rattle.cabinet.specs.declared.Cabinet.{Cabinet}
 use Rattle.cabinet.specs.Orders.{Order}
 use Rattle.cabinet.specs.Logs.{Standing, Routed, moved}
@@ -25,10 +24,10 @@ pub record Settles (m : Meaning) (s t : Standing) (n : ℕ) : Type 0 where
   pub settled : Settling m s (Ok tt) t.setting
   pub count : n ≡ moved m.cells s.setting t.setting
 
--- what settling a state anew answers
-abbrev pub SettledAnew : Meaning → State → Result Resettled Fault → Type 0
-SettledAnew m s (Ok v) = Settles m (standing m s) (standing m v.state) v.moved
-SettledAnew m s (Err e) = Settling m (standing m s) (Err e) (standing m s).setting
+-- what taking a state over answers, and the cabinet that it leaves: done, the state is settled anew and stands; refused, nothing changes
+abbrev pub Adopted : {C : Type 0} → (C → Meaning) → Cabinet C → State → Result ℕ Fault → Cabinet C → Type 0
+Adopted meaning before s (Ok n) after = (after.card ≡ before.card) × Settles (meaning before.card) (standing (meaning before.card) s) (standing (meaning before.card) after.state) n
+Adopted meaning before s (Err e) after = (after ≡ before) × Settling (meaning before.card) (standing (meaning before.card) s) (Err e) (standing (meaning before.card) s).setting
 
 -- what every log leaves true of what stands
 pub record Ready (m : Meaning) (s : Standing) : Type 0 where

@@ -3,7 +3,7 @@ ghost use Rattle.std.specs.Prelude.{◌≡◌, slice_index_or};
 ghost use Rattle.cabinet.specs.Carrying.{Carried};
 ghost use Rattle.cabinet.specs.States.{standing, Found};
 
-use super::{Cabinet, State};
+use super::Cabinet;
 use card::fault::{Cause, Fault, Layer};
 use card::{Card, NONE};
 use payload::Payload;
@@ -12,25 +12,22 @@ use payload::Payload;
 fn sent<P: Payload + Copy>(given: &[P], input: u8) -> P
     ensures { result ≡ slice_index_or given.now input P.Payload.silent }
 {
-    if (input as usize) < given.len() {
-        given[input as usize]
-    } else {
-        P::silence()
-    }
+    given
+        .get(input as usize)
+        .copied()
+        .unwrap_or(P::silence())
 }
 
 impl<C: Card> Cabinet<C> {
     // For each output the busy input that ends there where the cells now stand, or `NONE`.
-    fn route(&self, state: State) -> Result<[u8; 16], Fault>
-        ensures { Found (C.Card.meaning self.now.card) (standing (C.Card.meaning self.now.card) state) result }
+    fn route(&self) -> Result<[u8; 16], Fault>
+        ensures { Found (C.Card.meaning self.now.card) (standing (C.Card.meaning self.now.card) self.now.state) result }
     {
-        let lines = self.card.lines();
-        let cells = self.card.cells() as usize;
         let columns = self.card.columns();
         let mut table = [NONE; 16];
-        for input in 0..lines {
-            if state.plan.output(input) != NONE {
-                let place = self.card.place(&state.setting[0..cells], input, columns)?;
+        for input in 0..self.card.lines() {
+            if self.state.plan.output(input).is_some() {
+                let place = self.card.place(self.setting(), input, columns)?;
                 table[place as usize] = input;
             }
         }
@@ -49,9 +46,9 @@ impl<C: Card> Cabinet<C> {
                 place: 0,
             });
         }
-        let route = self.route(self.state)?;
-        for output in 0..lines {
-            out[output as usize] = sent(given, route[output as usize]);
+        let route = self.route()?;
+        for (output, slot) in out.iter_mut().enumerate() {
+            *slot = sent(given, route[output]);
         }
         Ok(())
     }

@@ -12,14 +12,7 @@ impl<C: Card> Cabinet<C> {
     pub fn check(&self, sheet: &[u8]) -> Result<Verdict, Fault>
         ensures { Checked (C.Card.meaning self.now.card) (standing (C.Card.meaning self.now.card) self.now.state) sheet.now result }
     {
-        let cells = self.card.cells() as usize;
-        let state = self.state;
-        sheets::check(
-            &self.card,
-            &state.plan,
-            &state.holds[0..cells],
-            &state.setting[0..cells],
-            sheet,
-        )
+        let holds = &self.state.holds[..self.card.cells() as usize];
+        sheets::check(&self.card, &self.state.plan, holds, self.setting(), sheet)
     }
 }

@@ -4,7 +4,7 @@
 ghost use Rattle.std.specs.Prelude.{◌≡◌, ◌≤◌, [], ◌∷◌, length};
 ghost use Rattle.cabinet.specs.Orders.{Row};
 ghost use Rattle.cabinet.specs.Logs.{Log, moved as moved_count};
-ghost use Rattle.cabinet.specs.States.{standing, SettledAnew};
+ghost use Rattle.cabinet.specs.States.{standing, Adopted};
 
 mod carrying;
 mod checking;
@@ -16,19 +16,13 @@ use card::fault::Fault;
 use card::plan::Plan;
 use card::{Card, NONE};
 
-// What stands in a cabinet. The tables have room for more cells than the card has.
+// What stands in a cabinet, copied by value and stored back whole: so the holds and the setting are arrays, with room
+// for more cells than the card has.
 #[derive(Clone, Copy)]
 struct State {
     plan: Plan,
     holds: [u8; 64],
     setting: [u8; 64],
-}
-
-// A state that is settled anew, and how many cells moved.
-#[derive(Clone, Copy)]
-struct Resettled {
-    state: State,
-    moved: u8,
 }
 
 // A card, and what stands in it.
@@ -44,8 +38,8 @@ fn differing(before: &[u8], after: &[u8]) -> u8
     ensures { result ≡ moved_count (length before.now) before.now after.now }
 {
     let mut count = 0;
-    for c in 0..before.len() {
-        if before[c] != after[c] {
+    for (x, y) in before.iter().zip(after) {
+        if x != y {
             count += 1;
         }
     }
@@ -78,32 +72,24 @@ impl<C: Card> Cabinet<C> {
         &self.card
     }
 
-    // The standing setting, in a table that has room for more cells than the card has.
-    pub fn setting(&self) -> [u8; 64]
-        ensures { result ≡ self.now.state.setting }
+    // The standing setting: a position for each cell.
+    pub fn setting(&self) -> &[u8]
+        ensures { result.now ≡ (standing (C.Card.meaning self.now.card) self.now.state).setting }
     {
-        self.state.setting
+        &self.state.setting[..self.card.cells() as usize]
     }
 
-    // Settles a state anew: the first setting for its pairs and holds, in place of its own.
-    fn settled(&self, next: State) -> Result<Resettled, Fault>
-        ensures { SettledAnew (C.Card.meaning self.now.card) next result }
+    // Settles a state anew and takes it over: the first setting for its pairs and holds, in place of its own. Answers how
+    // many cells moved; where settling refuses, what stands stays.
+    fn adopt(&mut self, next: State) -> Result<u8, Fault>
+        ensures { Adopted C.Card.meaning self.old next result self.new }
     {
         let cells = self.card.cells() as usize;
-        let plan = next.plan;
-        let holds = next.holds;
-        let before = next.setting;
         let mut setting = next.setting;
         self.card
-            .settle(&plan, &holds[0..cells], &mut setting[0..cells])?;
-        let moved = differing(&before[0..cells], &setting[0..cells]);
-        Ok(Resettled {
-            state: State {
-                plan,
-                holds,
-                setting,
-            },
-            moved,
-        })
+            .settle(&next.plan, &next.holds[..cells], &mut setting[..cells])?;
+        let moved = differing(&next.setting[..cells], &setting[..cells]);
+        self.state = State { setting, ..next };
+        Ok(moved)
     }
 }

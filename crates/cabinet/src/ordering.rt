@@ -2,7 +2,7 @@
 ghost use Rattle.cabinet.specs.Orders.{Order};
 ghost use Rattle.cabinet.specs.States.{Ordered};
 
-use super::{Cabinet, State};
+use super::Cabinet;
 use card::fault::{Cause, Fault, Layer};
 use card::{Card, NONE};
 
@@ -18,56 +18,30 @@ impl<C: Card> Cabinet<C> {
                 place: 0,
             });
         }
-        let mut plan = self.state.plan;
-        plan.fill(pairs)?;
-        let next = State {
-            plan,
-            holds: self.state.holds,
-            setting: self.state.setting,
-        };
-        let done = self.settled(next)?;
-        self.state = done.state;
-        Ok(done.moved)
+        let mut next = self.state;
+        next.plan.fill(pairs)?;
+        self.adopt(next)
     }
 
     // Puts an idle input through to an idle output.
     pub fn patch(&mut self, input: u8, output: u8) -> Result<u8, Fault>
         ensures { Ordered C.Card.meaning self.old (Order.patch input output) result self.new }
     {
-        let mut plan = self.state.plan;
-        plan.patch(input, output)?;
-        let next = State {
-            plan,
-            holds: self.state.holds,
-            setting: self.state.setting,
-        };
-        match self.settled(next) {
-            Ok(done) => {
-                self.state = done.state;
-                Ok(done.moved)
-            }
-            Err(fault) => Err(Fault {
-                cause: fault.cause,
-                layer: fault.layer,
-                place: input,
-            }),
-        }
+        let mut next = self.state;
+        next.plan.patch(input, output)?;
+        self.adopt(next).map_err(|fault| Fault {
+            place: input,
+            ..fault
+        })
     }
 
     // Makes a busy input idle.
     pub fn drop(&mut self, input: u8) -> Result<u8, Fault>
         ensures { Ordered C.Card.meaning self.old (Order.drop input) result self.new }
     {
-        let mut plan = self.state.plan;
-        plan.drop(input)?;
-        let next = State {
-            plan,
-            holds: self.state.holds,
-            setting: self.state.setting,
-        };
-        let done = self.settled(next)?;
-        self.state = done.state;
-        Ok(done.moved)
+        let mut next = self.state;
+        next.plan.drop(input)?;
+        self.adopt(next)
     }
 
     // Fixes a cell at a position.
@@ -88,31 +62,19 @@ impl<C: Card> Cabinet<C> {
                 place: cell,
             });
         }
-        let mut holds = self.state.holds;
-        if holds[cell as usize] != NONE {
+        let mut next = self.state;
+        if next.holds[cell as usize] != NONE {
             return Err(Fault {
                 cause: Cause::CellHeld,
                 layer: Layer::Cabinet,
                 place: cell,
             });
         }
-        holds[cell as usize] = position;
-        let next = State {
-            plan: self.state.plan,
-            holds,
-            setting: self.state.setting,
-        };
-        match self.settled(next) {
-            Ok(done) => {
-                self.state = done.state;
-                Ok(done.moved)
-            }
-            Err(fault) => Err(Fault {
-                cause: fault.cause,
-                layer: fault.layer,
-                place: cell,
-            }),
-        }
+        next.holds[cell as usize] = position;
+        self.adopt(next).map_err(|fault| Fault {
+            place: cell,
+            ..fault
+        })
     }
 
     // Ends the hold of a cell.
@@ -126,22 +88,15 @@ impl<C: Card> Cabinet<C> {
                 place: cell,
             });
         }
-        let mut holds = self.state.holds;
-        if holds[cell as usize] == NONE {
+        let mut next = self.state;
+        if next.holds[cell as usize] == NONE {
             return Err(Fault {
                 cause: Cause::CellNotHeld,
                 layer: Layer::Cabinet,
                 place: cell,
             });
         }
-        holds[cell as usize] = NONE;
-        let next = State {
-            plan: self.state.plan,
-            holds,
-            setting: self.state.setting,
-        };
-        let done = self.settled(next)?;
-        self.state = done.state;
-        Ok(done.moved)
+        next.holds[cell as usize] = NONE;
+        self.adopt(next)
     }
 }

@@ -1,45 +1,34 @@
 // Any command to a cabinet, and whole runs of commands.
-ghost use Rattle.std.specs.Prelude.{◌≡◌, length, IfOk};
-ghost use Rattle.cabinet.specs.Carrying.{CarriedFront, CarriedOut};
+ghost use Rattle.std.specs.Prelude.{IfOk};
+ghost use Rattle.cabinet.specs.Carrying.{CarriedOut};
 ghost use Rattle.cabinet.specs.States.{standing};
 ghost use Rattle.cabinet.specs.Serving.{numbers, Obeyed, Served};
-ghost use Rattle.payload.specs.Silence.{quiet_number, quiet_frame};
+ghost use Rattle.payload.specs.Silence.{quiet_number};
 
 use super::Cabinet;
 use super::command::{Command, Reply};
 use card::Card;
 use card::fault::Fault;
-use payload::{Frame, Payload};
+use payload::Payload;
 use std::alloc::{AllocError, Global};
 
 impl<C: Card> Cabinet<C> {
-    // Carries payloads to the front of a table that has room for them.
-    fn carry_front<P: Payload + Copy>(&self, given: &[P], table: &mut [P]) -> Result<(), Fault>
-        requires { length table.old ≡ 16 }
-        ensures { CarriedFront P.Payload.silent (C.Card.meaning self.now.card) (standing (C.Card.meaning self.now.card) self.now.state) given.now table.old table.new result }
+    // What each output gets when payloads are carried, with silence past the last line.
+    fn carried<P: Payload + Copy>(&self, given: &[P]) -> Result<[P; 16], Fault>
+        ensures { CarriedOut P.Payload.silent (C.Card.meaning self.now.card) (standing (C.Card.meaning self.now.card) self.now.state) given.now result }
     {
         let lines = self.card.lines() as usize;
-        self.carry(given, &mut table[0..lines])
+        let mut table = [P::silence(); 16];
+        self.carry(given, &mut table[..lines])?;
+        Ok(table)
     }
 
     // Carries each input's own number.
     fn ring_out(&self) -> Result<[u8; 16], Fault>
         ensures { CarriedOut quiet_number (C.Card.meaning self.now.card) (standing (C.Card.meaning self.now.card) self.now.state) (numbers (C.Card.meaning self.now.card).lines) result }
     {
-        let lines = self.card.lines() as usize;
         let own = [0, 1, 2, 3, 4, 5, 6, 7, 8, 9, 10, 11, 12, 13, 14, 15];
-        let mut table = [<u8 as Payload>::silence(); 16];
-        self.carry_front(&own[0..lines], &mut table)?;
-        Ok(table)
-    }
-
-    // Carries voice frames.
-    fn voice(&self, frames: &[Frame]) -> Result<[Frame; 16], Fault>
-        ensures { CarriedOut quiet_frame (C.Card.meaning self.now.card) (standing (C.Card.meaning self.now.card) self.now.state) frames.now result }
-    {
-        let mut table = [<Frame as Payload>::silence(); 16];
-        self.carry_front(frames, &mut table)?;
-        Ok(table)
+        self.carried(&own[..self.card.lines() as usize])
     }
 
     // Does what a command says.
@@ -53,7 +42,7 @@ impl<C: Card> Cabinet<C> {
             Command::Hold { cell, position } => Ok(Reply::Moved(self.hold(cell, position)?)),
             Command::Release { cell } => Ok(Reply::Moved(self.release(cell)?)),
             Command::RingOut => Ok(Reply::Numbers(self.ring_out()?)),
-            Command::Voice(frames) => Ok(Reply::Frames(self.voice(frames)?)),
+            Command::Voice(frames) => Ok(Reply::Frames(self.carried(frames)?)),
         }
     }
 }

@@ -1,7 +1,7 @@
 -- The frames of a body, one after another.
-use Rattle.std.proofs.Common.{◌≡◌, ℕ, zero, suc, ◌+◌, ◌*◌, ◌<◌, ◌≤◌, List, [], ◌++◌, length, get_or, take, drop, set, replicate, sym, refl, ap, ◌∙◌, subst, ⊎_elim, arith, length-set, take-add}
+use Rattle.std.proofs.Common.{◌≡◌, ℕ, zero, suc, ◌+◌, ◌*◌, ◌<◌, ◌≤◌, List, [], ◌++◌, length, get_or, take, drop, set, replicate, sym, refl, ap, ◌∙◌, inl, inr, ◌⊎◌, length-drop, subst, ⊎_elim, arith, length-set, take-add}
 use lib.ListN.{get_or-replicate}
-use Rattle.std.proofs.lemmas.List.{get_or-set_same, get_or-set_other, take_more, take_all, flat_map_more}
+use Rattle.std.proofs.lemmas.List.{drop-drop, get_or-set_same, get_or-set_other, take_more, take_all, flat_map_more}
 use Rattle.std.proofs.lemmas.Bool.{cases_lt}
 use Rattle.payload.specs.declared.Frame.{Frame}
 use Rattle.payload.specs.Silence.{quiet_frame}
@@ -14,6 +14,18 @@ pub record SoFar (body : List ℕ) (n : ℕ) (frames : List Frame) : Type 0 wher
   pub whole : (i : ℕ) → i < n → 11 * i + 11 ≤ length body → frame_bytes (get_or frames i quiet_frame) ≡ take 11 (drop (11 * i) body)
   pub others : (i : ℕ) → i < n → length body < 11 * i + 11 → get_or frames i quiet_frame ≡ quiet_frame
   pub rest : (i : ℕ) → n ≤ i → i < 16 → get_or frames i quiet_frame ≡ quiet_frame
+
+-- what is left of a body when n frames have been tried: the bytes past them, or too few for one more
+abbrev pub Left : List ℕ → ℕ → List ℕ → Type 0
+Left body n rest = (rest ≡ drop (11 * n) body) ⊎ ((length rest < 11) × (length body < 11 * n + 11))
+
+pub left_short : (body : List ℕ) (n : ℕ) (rest : List ℕ) → Left body n rest → length rest < 11 → length body < 11 * n + 11
+left_short body n rest (inl e) h = omega (arith, ap length e ∙ length-drop (11 * n) body)
+left_short body n rest (inr p) h = p.1
+
+pub left_more : (body : List ℕ) (n : ℕ) (rest : List ℕ) → Left body n rest → 11 ≤ length rest → (rest ≡ drop (11 * n) body) × (drop 11 rest ≡ drop (11 * (n + 1)) body) × (11 * n + 11 ≤ length body)
+left_more body n rest (inl e) h = (e, ap (λ (l : List ℕ). drop 11 l) e ∙ drop-drop 11 (11 * n) body ∙ ap (λ (k : ℕ). drop k body) (omega arith), omega (arith, ap length e ∙ length-drop (11 * n) body))
+left_more body n rest (inr p) h = absurd (omega (arith, p.0))
 
 pub none_yet : (body : List ℕ) (q : Frame) → q ≡ quiet_frame → SoFar body 0 (replicate 16 q)
 none_yet body q e =

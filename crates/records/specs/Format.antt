@@ -1,5 +1,9 @@
 -- The format of order records: a mark of two letters, then a body.
-use Rattle.std.specs.Prelude.{◌≡◌, ℕ, ◌*◌, ◌≤◌, ◌⊎◌, List, [], ◌∷◌, ◌++◌, length, codes, slice_index}
+use Rattle.std.specs.Prelude.{◌≡◌, ℕ, ◌*◌, ◌≤◌, ◌⊎◌, List, [], ◌∷◌, ◌++◌, length, codes, slice_index, Ok, Err, Result, ◌≢◌}
+use Rattle.card.specs.declared.fault.Cause.TheVariants.{BadMark}
+use Rattle.card.specs.declared.fault.Layer.TheVariants.{Record}
+use Rattle.card.specs.declared.fault.Fault.{Fault}
+use Rattle.card.specs.Faults.{fault}
 use Rattle.records.specs.declared.order.Mark.{Mark}
 use Rattle.records.specs.declared.order.Mark.TheVariants.{Cm, Pl, Pt, Dr, Ho, Re, Ro, Vf}
 use Rattle.records.specs.declared.order.Order.{Order}
@@ -29,6 +33,11 @@ table Ho = row (codes "HO") (λ n. 2) following
 table Re = row (codes "RE") (λ n. 1) following
 table Ro = row (codes "RO") (λ n. 0) following
 table Vf = row (codes "VF") (λ n. 11 * n) following
+
+-- the mark with these letters, or that there is none
+abbrev pub Lettered : List ℕ → Result Mark Fault → Type 0
+Lettered letters (Ok m) = letters ≡ (table m).letters
+Lettered letters (Err e) = ((m : Mark) → letters ≢ (table m).letters) × (e ≡ fault BadMark Record 0)
 
 -- the turn has come at n lines
 abbrev pub Turns : ℕ → Turn → Type 0

@@ -1,5 +1,6 @@
 // The answers of a cabinet, as bytes.
 ghost use Rattle.std.specs.Prelude.{◌≡◌, ◌+◌, ◌≤◌, true, ◌++◌, length, is_ok, if◌then◌else◌, vec_len, vec_capacity};
+ghost use Rattle.records.specs.declared.answer.Answer.TheVariants.{Refused};
 ghost use Rattle.records.specs.Answering.{answer_bytes, voice_bytes};
 
 use crate::frame::put_frames;
@@ -16,10 +17,12 @@ pub enum Answer<'a> {
 }
 
 // The answer that a refusal is.
-pub fn refusal(fault: Fault) -> Answer<'static>
-    ensures { result ≡ Answer.Refused fault }
-{
-    Answer::Refused(fault)
+impl From<Fault> for Answer<'_> {
+    ghost from_gives = { λ f a. a ≡ Refused f };
+
+    fn from(fault: Fault) -> Self {
+        Answer::Refused(fault)
+    }
 }
 
 // Appends a head and a tail, both or neither.

@@ -6,34 +6,6 @@ ghost use Rattle.records.specs.Frames.{Typed, Framed, Appended, frame_bytes, sam
 use payload::{Frame, Payload};
 use std::alloc::AllocError;
 
-// The count of two bytes.
-fn count_from(high: u8, low: u8) -> u16
-    ensures { wide result ≡ high ∷ low ∷ [] }
-{
-    u16::from_be_bytes([high, low])
-}
-
-// The sample of two bytes.
-fn sample_from(high: u8, low: u8) -> i16
-    ensures { sample_bytes result ≡ high ∷ low ∷ [] }
-{
-    i16::from_be_bytes([high, low])
-}
-
-// The two bytes of a count.
-fn count_to(count: u16) -> [u8; 2]
-    ensures { result ≡ wide count }
-{
-    count.to_be_bytes()
-}
-
-// The two bytes of a sample.
-fn sample_to(sample: i16) -> [u8; 2]
-    ensures { result ≡ sample_bytes sample }
-{
-    sample.to_be_bytes()
-}
-
 // The frame of eleven bytes. It has these bytes, and no other frame has.
 pub fn decode(bytes: &[u8; 11]) -> Frame
     ensures typed { Typed result }
@@ -41,11 +13,11 @@ pub fn decode(bytes: &[u8; 11]) -> Frame
     ensures only { (f : Frame) → Typed f → frame_bytes f ≡ bytes.now → f ≡ result }
 {
     let [a, b, level, c, d, e, f, g, h, i, j] = *bytes;
-    let count = count_from(a, b);
-    let first = sample_from(c, d);
-    let second = sample_from(e, f);
-    let third = sample_from(g, h);
-    let fourth = sample_from(i, j);
+    let count = u16::from_be_bytes([a, b]);
+    let first = i16::from_be_bytes([c, d]);
+    let second = i16::from_be_bytes([e, f]);
+    let third = i16::from_be_bytes([g, h]);
+    let fourth = i16::from_be_bytes([i, j]);
     Frame {
         count,
         level,
@@ -60,23 +32,12 @@ pub fn encode(frame: Frame) -> [u8; 11]
     ensures only { (f : Frame) → Typed f → frame_bytes f ≡ result → f ≡ frame }
 {
     let [first, second, third, fourth] = frame.samples;
-    let [a, b] = count_to(frame.count);
-    let [c, d] = sample_to(first);
-    let [e, f] = sample_to(second);
-    let [g, h] = sample_to(third);
-    let [i, j] = sample_to(fourth);
+    let [a, b] = frame.count.to_be_bytes();
+    let [c, d] = first.to_be_bytes();
+    let [e, f] = second.to_be_bytes();
+    let [g, h] = third.to_be_bytes();
+    let [i, j] = fourth.to_be_bytes();
     [a, b, frame.level, c, d, e, f, g, h, i, j]
-}
-
-// The frame that begins at this byte.
-fn decode_at(body: &[u8], start: usize) -> Frame
-    requires { start + 11 ≤ length body.now }
-    ensures typed { Typed result }
-    ensures value { frame_bytes result ≡ take 11 (drop start body.now) }
-{
-    let mut bytes = [0; 11];
-    bytes.copy_from_slice(&body[start..start + 11]);
-    decode(&bytes)
 }
 
 // The whole frames of a body, sixteen at most, and silence after them.
@@ -84,10 +45,12 @@ pub fn decode_all(body: &[u8]) -> [Frame; 16]
     ensures { Framed body.now result }
 {
     let mut frames = [<Frame as Payload>::silence(); 16];
+    let mut rest = body;
+    // An index loop: over `iter_mut` the proof that a place left alone keeps its frame did not close.
     for i in 0..16 {
-        let start = 11 * i;
-        if start + 11 <= body.len() {
-            frames[i] = decode_at(body, start);
+        if let Some((bytes, after)) = rest.split_first_chunk() {
+            frames[i] = decode(bytes);
+            rest = after;
         }
     }
     frames

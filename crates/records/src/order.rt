@@ -1,6 +1,6 @@
 // The orders that a cabinet takes, and the marks that their records begin with.
-ghost use Rattle.std.specs.Prelude.{◌≡◌, [], ◌∷◌, length, MatchBool, MatchOption, ◌≢◌};
-ghost use Rattle.records.specs.Format.{table, Stands, image, mark_of, body_of};
+ghost use Rattle.std.specs.Prelude.{◌≡◌, length, MatchBool};
+ghost use Rattle.records.specs.Format.{table, Stands, Lettered, image, mark_of, body_of};
 
 use card::fault::{Cause, Fault, Layer};
 
@@ -44,29 +44,33 @@ pub(crate) const WRONG_LENGTH: Fault = Fault {
     place: 0,
 };
 
-impl Mark {
-    // The mark with these letters.
-    pub(crate) fn from_letters(first: u8, second: u8) -> Option<Mark>
-        ensures { MatchOption result ((m : Mark) → first ∷ second ∷ [] ≢ (table m).letters) (λ m. first ∷ second ∷ [] ≡ (table m).letters) }
-    {
-        match (first, second) {
-            (b'C', b'M') => Some(Mark::Cm),
-            (b'P', b'L') => Some(Mark::Pl),
-            (b'P', b'T') => Some(Mark::Pt),
-            (b'D', b'R') => Some(Mark::Dr),
-            (b'H', b'O') => Some(Mark::Ho),
-            (b'R', b'E') => Some(Mark::Re),
-            (b'R', b'O') => Some(Mark::Ro),
-            (b'V', b'F') => Some(Mark::Vf),
-            _ => None,
+// The mark with these letters.
+impl TryFrom<[u8; 2]> for Mark {
+    type Error = Fault;
+
+    ghost try_from_gives = { Lettered };
+
+    fn try_from(letters: [u8; 2]) -> Result<Mark, Fault> {
+        match &letters {
+            b"CM" => Ok(Mark::Cm),
+            b"PL" => Ok(Mark::Pl),
+            b"PT" => Ok(Mark::Pt),
+            b"DR" => Ok(Mark::Dr),
+            b"HO" => Ok(Mark::Ho),
+            b"RE" => Ok(Mark::Re),
+            b"RO" => Ok(Mark::Ro),
+            b"VF" => Ok(Mark::Vf),
+            _ => Err(BAD_MARK),
         }
     }
+}
 
-    // The letters of the mark.
-    pub(crate) fn letters(self) -> [u8; 2]
-        ensures { result ≡ (table self).letters }
-    {
-        match self {
+// The letters of the mark.
+impl From<Mark> for [u8; 2] {
+    ghost from_gives = { λ m r. r ≡ (table m).letters };
+
+    fn from(mark: Mark) -> [u8; 2] {
+        match mark {
             Mark::Cm => *b"CM",
             Mark::Pl => *b"PL",
             Mark::Pt => *b"PT",
@@ -77,7 +81,9 @@ impl Mark {
             Mark::Vf => *b"VF",
         }
     }
+}
 
+impl Mark {
     // How many bytes follow the mark.
     pub(crate) fn body_length(self, lines: u8) -> usize
         ensures { result ≡ (table self).size lines }
@@ -108,18 +114,12 @@ impl Order<'_> {
         ensures { result ≡ mark_of (image self.now) }
     {
         match self {
-            Order::Commission { kind: _, lines: _ } => Mark::Cm,
+            Order::Commission { .. } => Mark::Cm,
             Order::Plan(_) => Mark::Pl,
-            Order::Patch {
-                input: _,
-                output: _,
-            } => Mark::Pt,
-            Order::Drop { input: _ } => Mark::Dr,
-            Order::Hold {
-                cell: _,
-                position: _,
-            } => Mark::Ho,
-            Order::Release { cell: _ } => Mark::Re,
+            Order::Patch { .. } => Mark::Pt,
+            Order::Drop { .. } => Mark::Dr,
+            Order::Hold { .. } => Mark::Ho,
+            Order::Release { .. } => Mark::Re,
             Order::RingOut => Mark::Ro,
             Order::Voice(_) => Mark::Vf,
         }
@@ -130,20 +130,10 @@ impl Order<'_> {
         ensures { result ≡ length (body_of (image self.now)) }
     {
         match self {
-            Order::Commission { kind: _, lines: _ } => 2,
-            Order::Patch {
-                input: _,
-                output: _,
-            } => 2,
-            Order::Hold {
-                cell: _,
-                position: _,
-            } => 2,
-            Order::Drop { input: _ } => 1,
-            Order::Release { cell: _ } => 1,
+            Order::Commission { .. } | Order::Patch { .. } | Order::Hold { .. } => 2,
+            Order::Drop { .. } | Order::Release { .. } => 1,
             Order::RingOut => 0,
-            Order::Plan(body) => body.len(),
-            Order::Voice(body) => body.len(),
+            Order::Plan(body) | Order::Voice(body) => body.len(),
         }
     }
 }

@@ -39,31 +39,26 @@ pub fn read(lines: u8, bytes: &[u8]) -> Result<Option<(Order<'_>, &[u8])>, Fault
     if lines == 1 || lines > 16 {
         return Err(WRONG_LENGTH);
     }
-    if bytes.len() == 0 {
+    if bytes.is_empty() {
         return Ok(None);
     }
-    if bytes.len() == 1 {
+    let Some((letters, tail)) = bytes.split_first_chunk::<2>() else {
         return Err(Fault {
             cause: Cause::CutShort,
             layer: Layer::Record,
             place: 0,
         });
-    }
-    let Some(mark) = Mark::from_letters(bytes[0], bytes[1]) else {
-        return Err(BAD_MARK);
     };
+    let mark = Mark::try_from(*letters)?;
     if !mark.stands(lines) {
         return Err(BAD_MARK);
     }
-    let tail = &bytes[2..];
-    let needed = mark.body_length(lines);
-    if tail.len() < needed {
+    let Some((body, rest)) = tail.split_at_checked(mark.body_length(lines)) else {
         return Err(Fault {
             cause: Cause::CutShort,
             layer: Layer::Record,
             place: tail.len() as u8,
         });
-    }
-    let (body, rest) = tail.split_at(needed);
+    };
     Ok(Some((order_from(mark, body), rest)))
 }

@@ -50,7 +50,7 @@ pub fn write(lines: u8, order: &Order<'_>, buffer: &mut [u8]) -> Result<usize, F
     if buffer.len() < held + 2 {
         return Err(WRONG_LENGTH);
     }
-    buffer[0..2].copy_from_slice(&mark.letters());
+    buffer[..2].copy_from_slice(&<[u8; 2]>::from(mark));
     put_body(order, &mut buffer[2..held + 2]);
     Ok(held + 2)
 }

@@ -1,5 +1,4 @@
-use Rattle.std.proofs.Common.{◌≡◌, ℕ, ◌-◌, take, subst, arith}
-use Rattle.card.specs.PlanPairs.{pairs_of}
+use Rattle.std.proofs.Common.{ℕ, List, take, subst}
 use Rattle.sheets.specs.Checking.{Compared}
 use Rattle.cabinet.specs.States.{standing}
 use Rattle.cabinet.proofs.Checks.{checked}
@@ -7,6 +6,8 @@ use Rattle.cabinet.proofs.Cabinet.check.Goals as goal
 
 pub returns : goal.returns
 returns g c =
-    let cells : c.cells-cells.result - 0 ≡ (g.C.Card.meaning c.args.self.now.card).cells = omega (arith, c.cells-cells.ensures) in
-    checked (g.C.Card.meaning c.args.self.now.card) (g.met.C.Card.sound c.args.self.now.card) (standing (g.C.Card.meaning c.args.self.now.card) c.args.self.now.state) c.args.sheet.now c.check.result
-    (subst (λ (k : ℕ). Compared (g.C.Card.meaning c.args.self.now.card) (pairs_of c.args.self.now.state.plan) (take k c.args.self.now.state.holds) (take k c.args.self.now.state.setting) c.args.sheet.now c.check.result) cells c.check.ensures)
+    let m = g.C.Card.meaning c.args.self.now.card in
+    let s = standing m c.args.self.now.state in
+    checked m (g.met.C.Card.sound c.args.self.now.card) s c.args.sheet.now c.check.result
+    (subst (λ (l : List ℕ). Compared m s.force.pairs s.force.holds l c.args.sheet.now c.check.result) c.setting.ensures
+    (subst (λ (k : ℕ). Compared m s.force.pairs (take k c.args.self.now.state.holds) c.setting.result.now c.args.sheet.now c.check.result) c.cells.ensures c.check.ensures))

@@ -4,7 +4,7 @@ use Rattle.card.specs.Plans.{Droppable, Undroppable}
 use Rattle.card.specs.PlanPairs.{pairs_of}
 use Rattle.card.proofs.Pairing.{law_size}
 use Rattle.cabinet.specs.Orders.{Order}
-use Rattle.cabinet.proofs.Calls.{order_broken, order_done, order_unsettled}
+use Rattle.cabinet.proofs.Calls.{order_broken, order_adopted}
 use Rattle.cabinet.proofs.Cabinet.drop.Goals as goal
 
 pub returns-in_err-drop : goal.returns-in_err-drop
@@ -14,18 +14,9 @@ returns-in_err-drop g c =
     (order_broken g.C.Card.meaning g.met.C.Card.sound c.args.self.now (Order.drop c.args.input) c.in_err-drop.field-0.0
     (λ r. subst (λ (n : ℕ). Undroppable n (pairs_of c.args.self.now.state.plan) c.args.input c.in_err-drop.field-0.0) (sym (law_size c.args.self.now.state.plan.lawful) ∙ r.lines) c.in_err-drop.ensures.pairs.0))
 
-pub returns-in_err-done : goal.returns-in_err-done
-returns-in_err-done g c =
-    let p = err_from_is_err_and c.from_residual-in_err-done.result c.from_residual-in_err-done.ensures.1 in
-    rw (p.1, p.2)
-    (order_unsettled g.C.Card.meaning g.met.C.Card.sound c.args.self.now (Order.drop c.args.input) (record { plan = c.drop.new.self; holds = c.args.self.now.state.holds; setting = c.args.self.now.state.setting })
-    (ap (λ (x : List ℕ). record { pairs = x; holds = take (g.C.Card.meaning c.args.self.now.card).cells c.args.self.now.state.holds }) c.in_ok-drop.ensures.pairs.1)
-    (λ r. subst (λ (n : ℕ). Droppable n (pairs_of c.args.self.now.state.plan) c.args.input) (sym (law_size c.args.self.now.state.plan.lawful) ∙ r.lines) c.in_ok-drop.ensures.pairs.0)
-    refl c.in_err-done.field-0.0 c.in_err-done.field-0.0 refl c.in_err-done.ensures)
-
 pub returns : goal.returns
 returns g c =
-    order_done g.C.Card.meaning g.met.C.Card.sound c.args.self.now (Order.drop c.args.input) (record { plan = c.drop.new.self; holds = c.args.self.now.state.holds; setting = c.args.self.now.state.setting })
+    order_adopted g.C.Card.meaning g.met.C.Card.sound c.args.self.now (Order.drop c.args.input) (record { plan = c.drop.new.self; holds = c.args.self.now.state.holds; setting = c.args.self.now.state.setting })
     (ap (λ (x : List ℕ). record { pairs = x; holds = take (g.C.Card.meaning c.args.self.now.card).cells c.args.self.now.state.holds }) c.in_ok-drop.ensures.pairs.1)
     (λ r. subst (λ (n : ℕ). Droppable n (pairs_of c.args.self.now.state.plan) c.args.input) (sym (law_size c.args.self.now.state.plan.lawful) ∙ r.lines) c.in_ok-drop.ensures.pairs.0)
-    refl c.in_ok-done.done c.in_ok-done.ensures
+    refl _ _ (λ e. refl) c.adopt.ensures

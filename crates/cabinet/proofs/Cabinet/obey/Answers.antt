@@ -74,13 +74,13 @@ returns-in_ok-ring_out-in-RingOut g c =
     subst (λ (x : Command). Obeyed g.C.Card.meaning c.args.self.now x (Ok (Numbers c.in_ok-ring_out-in-RingOut.field-0)) c.args.self.now) (sym c.in-RingOut.is)
     (rang g.C.Card.meaning g.met.C.Card.sound c.args.self.now c.in_ok-ring_out-in-RingOut.field-0 c.in_ok-ring_out-in-RingOut.ensures)
 
-pub returns-in_err-voice-in-Voice : goal.returns-in_err-voice-in-Voice
-returns-in_err-voice-in-Voice g c =
-    let p = err_from_is_err_and c.from_residual-in_err-voice-in-Voice.result c.from_residual-in_err-voice-in-Voice.ensures.1 in
-    subst (λ (x : Command). Obeyed g.C.Card.meaning c.args.self.now x c.from_residual-in_err-voice-in-Voice.result c.args.self.now) (sym c.in-Voice.is)
-    (rw (p.1, p.2) (spoke_not g.C.Card.meaning g.met.C.Card.sound c.args.self.now c.in-Voice.frames c.in_err-voice-in-Voice.field-0.0 c.in_err-voice-in-Voice.ensures))
+pub returns-in_err-carried-in-Voice : goal.returns-in_err-carried-in-Voice
+returns-in_err-carried-in-Voice g c =
+    let p = err_from_is_err_and c.from_residual-in_err-carried-in-Voice.result c.from_residual-in_err-carried-in-Voice.ensures.1 in
+    subst (λ (x : Command). Obeyed g.C.Card.meaning c.args.self.now x c.from_residual-in_err-carried-in-Voice.result c.args.self.now) (sym c.in-Voice.is)
+    (rw (p.1, p.2) (spoke_not g.C.Card.meaning g.met.C.Card.sound c.args.self.now c.in-Voice.frames c.in_err-carried-in-Voice.field-0.0 c.in_err-carried-in-Voice.ensures))
 
-pub returns-in_ok-voice-in-Voice : goal.returns-in_ok-voice-in-Voice
-returns-in_ok-voice-in-Voice g c =
-    subst (λ (x : Command). Obeyed g.C.Card.meaning c.args.self.now x (Ok (Frames c.in_ok-voice-in-Voice.field-0)) c.args.self.now) (sym c.in-Voice.is)
-    (spoke g.C.Card.meaning g.met.C.Card.sound c.args.self.now c.in-Voice.frames c.in_ok-voice-in-Voice.field-0 c.in_ok-voice-in-Voice.ensures)
+pub returns-in_ok-carried-in-Voice : goal.returns-in_ok-carried-in-Voice
+returns-in_ok-carried-in-Voice g c =
+    subst (λ (x : Command). Obeyed g.C.Card.meaning c.args.self.now x (Ok (Frames c.in_ok-carried-in-Voice.field-0)) c.args.self.now) (sym c.in-Voice.is)
+    (spoke g.C.Card.meaning g.met.C.Card.sound c.args.self.now c.in-Voice.frames c.in_ok-carried-in-Voice.field-0 c.in_ok-carried-in-Voice.ensures)

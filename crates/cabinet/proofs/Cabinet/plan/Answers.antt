@@ -4,7 +4,7 @@ use Rattle.card.specs.declared.fault.Fault.{Fault}
 use Rattle.card.specs.Meaning.{Meaning, Sound}
 use Rattle.card.specs.Plans.{Lines, Plannable, Unplannable, Fine}
 use Rattle.cabinet.specs.Orders.{Order}
-use Rattle.cabinet.proofs.Calls.{order_broken, order_done, order_unsettled}
+use Rattle.cabinet.proofs.Calls.{order_broken, order_adopted}
 use Rattle.cabinet.proofs.Cabinet.plan.Goals as goal
 
 -- with as many pairs as the card has lines, the plan's own rules are the order's
@@ -32,18 +32,9 @@ returns-in_err-fill g c =
     (order_broken g.C.Card.meaning g.met.C.Card.sound c.args.self.now (Order.plan c.args.pairs.now) c.in_err-fill.field-0.0
     (λ r. wrong (g.C.Card.meaning c.args.self.now.card) (g.met.C.Card.sound c.args.self.now.card) c.args.pairs.now (c.if-pairs-lines.false ∙ c.lines.ensures) c.in_err-fill.field-0.0 c.in_err-fill.ensures.0))
 
-pub returns-in_err-done : goal.returns-in_err-done
-returns-in_err-done g c =
-    let p = err_from_is_err_and c.from_residual-in_err-done.result c.from_residual-in_err-done.ensures.1 in
-    rw (p.1, p.2)
-    (order_unsettled g.C.Card.meaning g.met.C.Card.sound c.args.self.now (Order.plan c.args.pairs.now) (record { plan = c.fill.new.self; holds = c.args.self.now.state.holds; setting = c.args.self.now.state.setting })
-    (ap (λ (x : List ℕ). record { pairs = x; holds = take (g.C.Card.meaning c.args.self.now.card).cells c.args.self.now.state.holds }) c.in_ok-fill.ensures.1)
-    (λ r. right (g.C.Card.meaning c.args.self.now.card) (g.met.C.Card.sound c.args.self.now.card) c.args.pairs.now (c.if-pairs-lines.false ∙ c.lines.ensures) c.in_ok-fill.ensures.0)
-    refl c.in_err-done.field-0.0 c.in_err-done.field-0.0 refl c.in_err-done.ensures)
-
 pub returns : goal.returns
 returns g c =
-    order_done g.C.Card.meaning g.met.C.Card.sound c.args.self.now (Order.plan c.args.pairs.now) (record { plan = c.fill.new.self; holds = c.args.self.now.state.holds; setting = c.args.self.now.state.setting })
+    order_adopted g.C.Card.meaning g.met.C.Card.sound c.args.self.now (Order.plan c.args.pairs.now) (record { plan = c.fill.new.self; holds = c.args.self.now.state.holds; setting = c.args.self.now.state.setting })
     (ap (λ (x : List ℕ). record { pairs = x; holds = take (g.C.Card.meaning c.args.self.now.card).cells c.args.self.now.state.holds }) c.in_ok-fill.ensures.1)
     (λ r. right (g.C.Card.meaning c.args.self.now.card) (g.met.C.Card.sound c.args.self.now.card) c.args.pairs.now (c.if-pairs-lines.false ∙ c.lines.ensures) c.in_ok-fill.ensures.0)
-    refl c.in_ok-done.done c.in_ok-done.ensures
+    refl _ _ (λ e. refl) c.adopt.ensures

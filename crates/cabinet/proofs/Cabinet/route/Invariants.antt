@@ -4,4 +4,4 @@ use Rattle.cabinet.proofs.Cabinet.route.Given as goal
 
 -- the inputs read so far are in the table where they end
 abbrev pub invariant-loop-input : goal.invariant-loop-input
-invariant-loop-input g l = SoFar (g.C.Card.meaning l.self.card) (standing (g.C.Card.meaning l.self.card) l.state) l.input l.table
+invariant-loop-input g l = SoFar (g.C.Card.meaning l.self.card) (standing (g.C.Card.meaning l.self.card) l.self.state) l.input l.table

@@ -1,5 +1,7 @@
 -- Each way through the reader is a case of the rule.
-use Rattle.std.proofs.Common.{◌≤◌, length, refl, ◌∙◌, arith}
+use Rattle.std.proofs.Common.{◌≡◌, ◌≤◌, ◌≢◌, ◌++◌, length, ap, take-append-drop, sym, refl, ◌∙◌, arith, rules}
+use Rattle.std.proofs.lemmas.List.{length-take-le}
+use Rattle.std.proofs.lemmas.Result.{err_from_is_err_and}
 use Rattle.records.specs.Reading.{bad_lines, lone}
 use Rattle.records.proofs.Laws.{lines_else, no_lines}
 use Rattle.records.proofs.Reading.{reads_end, reads_unknown, reads_misplaced, reads_cut, reads_whole}
@@ -9,30 +11,37 @@ use Rattle.records.proofs.reader.read.Goals as goal
 pub returns-then-lines-eq1 : goal.returns-then-lines-eq1
 returns-then-lines-eq1 c = answered (bad_lines (no_lines c.args.lines c.then-lines-eq1.either))
 
-pub returns-then-bytes-eq0 : goal.returns-then-bytes-eq0
-returns-then-bytes-eq0 c = answered (reads_end _ _ (lines_else _ c.if-lines-eq1.false c.if-lines-gt16.false) c.if-bytes-eq0.true)
-
-pub returns-then-bytes-eq1 : goal.returns-then-bytes-eq1
-returns-then-bytes-eq1 c = answered (lone (lines_else _ c.if-lines-eq1.false c.if-lines-gt16.false) c.if-bytes-eq1.true)
+pub returns-then-is_empty : goal.returns-then-is_empty
+returns-then-is_empty c = answered (reads_end _ _ (lines_else _ c.if-lines-eq1.false c.if-lines-gt16.false) (search rules))
 
 pub returns-in_default : goal.returns-in_default
 returns-in_default c =
-    let two : 2 ≤ length c.args.bytes.now = omega arith in
-    answered (reads_unknown _ _ (lines_else _ c.if-lines-eq1.false c.if-lines-gt16.false) two c.in_default.ensures)
+    let some : length c.args.bytes.now ≢ 0 = search rules in
+    answered (lone (lines_else _ c.if-lines-eq1.false c.if-lines-gt16.false) (omega (arith, c.in_default.ensures.cases, some)))
+
+pub returns-in_err-mark : goal.returns-in_err-mark
+returns-in_err-mark c =
+    let p = err_from_is_err_and c.from_residual.result c.from_residual.ensures.1 in
+    let two : 2 ≤ length c.args.bytes.now = omega (arith, c.in-Some.ensures.cases.2) in
+    rw (p.1, p.2, c.in_err-mark.ensures.1)
+    (answered (reads_unknown _ _ (lines_else _ c.if-lines-eq1.false c.if-lines-gt16.false) two (λ m e. c.in_err-mark.ensures.0 m (c.in-Some.ensures.cases.0 ∙ e))))
 
 pub returns-then-not-stands : goal.returns-then-not-stands
 returns-then-not-stands c =
-    let two : 2 ≤ length c.args.bytes.now = omega arith in
-    answered (reads_misplaced _ _ (lines_else _ c.if-lines-eq1.false c.if-lines-gt16.false) two c.in-Some.mark c.in-Some.ensures c.if-not-stands.ensures)
+    let two : 2 ≤ length c.args.bytes.now = omega (arith, c.in-Some.ensures.cases.2) in
+    answered (reads_misplaced _ _ (lines_else _ c.if-lines-eq1.false c.if-lines-gt16.false) two c.in_ok-mark.mark (sym c.in-Some.ensures.cases.0 ∙ c.in_ok-mark.ensures) c.if-not-stands.ensures)
 
-pub returns-then-tail-needed : goal.returns-then-tail-needed
-returns-then-tail-needed c =
-    let two : 2 ≤ length c.args.bytes.now = omega arith in
-    answered (reads_cut _ _ (lines_else _ c.if-lines-eq1.false c.if-lines-gt16.false) two c.in-Some.mark c.in-Some.ensures c.if-not-stands.ensures
-    _ refl _ refl (omega (arith, c.body_length-needed.ensures)))
+pub returns-in_default-split_at_checked : goal.returns-in_default-split_at_checked
+returns-in_default-split_at_checked c =
+    let two : 2 ≤ length c.args.bytes.now = omega (arith, c.in-Some.ensures.cases.2) in
+    answered (reads_cut _ _ (lines_else _ c.if-lines-eq1.false c.if-lines-gt16.false) two c.in_ok-mark.mark (sym c.in-Some.ensures.cases.0 ∙ c.in_ok-mark.ensures) c.if-not-stands.ensures
+    _ c.in-Some.ensures.cases.1 _ refl (omega (arith, c.in_default-split_at_checked.ensures.cases, c.body_length.ensures)))
 
 pub returns : goal.returns
 returns c =
-    let two : 2 ≤ length c.args.bytes.now = omega arith in
-    answered (reads_whole _ _ (lines_else _ c.if-lines-eq1.false c.if-lines-gt16.false) two c.in-Some.mark c.in-Some.ensures c.if-not-stands.ensures
-    _ refl _ _ _ c.split_at.ensures.by_index.0 (c.split_at.ensures.front_len ∙ c.body_length-needed.ensures) c.order_from.ensures)
+    let two : 2 ≤ length c.args.bytes.now = omega (arith, c.in-Some.ensures.cases.2) in
+    let cut = c.in-Some-split_at_checked.ensures.cases in
+    let parts : c.in-Some.tail.now ≡ c.in-Some-split_at_checked.body.now ++ c.in-Some-split_at_checked.rest.now = rw (cut.1, cut.2) (sym (take-append-drop c.body_length.result c.in-Some.tail.now)) in
+    let long : length c.in-Some-split_at_checked.body.now ≡ c.body_length.result = ap length cut.1 ∙ length-take-le c.body_length.result c.in-Some.tail.now cut.0 in
+    answered (reads_whole _ _ (lines_else _ c.if-lines-eq1.false c.if-lines-gt16.false) two c.in_ok-mark.mark (sym c.in-Some.ensures.cases.0 ∙ c.in_ok-mark.ensures) c.if-not-stands.ensures
+    _ c.in-Some.ensures.cases.1 _ _ _ parts (long ∙ c.body_length.ensures) c.order_from.ensures)

@@ -23,4 +23,4 @@ returns-then-buffer-held c = recorded (writes_short _ _ _ (lines_else _ c.if-lin
 pub returns : goal.returns
 returns c = recorded (writes_done _ _ _ (lines_else _ c.if-lines-eq1.false c.if-lines-gt16.false) _ c.mark-mark.ensures c.if-not-stands.ensures
     _ c.body_length-held.ensures (c.if-held-body_length.false ∙ c.body_length.ensures)
-    _ _ c.if-buffer-held.false (c.copy_from_slice.ensures.after ∙ c.letters.ensures) c.put_body.ensures)
+    _ _ c.if-buffer-held.false (c.copy_from_slice.ensures.after ∙ c.from.ensures) c.put_body.ensures)
