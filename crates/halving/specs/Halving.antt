@@ -1,6 +1,6 @@
 -- What a halving card means, by recursion on its level: level 0 has 2 lines, and each level more has twice as many.
 -- Above level 0 a card has w outer columns around two half cards of the level below: at w = 2 a first and a last column, at w = 1 a first column alone.
-use Rattle.std.specs.Prelude.{ℕ, zero, suc, ◌+◌, ◌*◌, ◌/◌, ◌%◌, cond, List, take, drop, nat_le, slice_index}
+use Rattle.std.specs.Prelude.{◌≡◌, ℕ, zero, suc, ◌+◌, ◌*◌, ◌/◌, ◌%◌, cond, ◌⊎◌, List, take, drop, nat_le, slice_index}
 use Rattle.card.specs.Meaning.{Meaning}
 
 abbrev pub lines_at : ℕ → ℕ
@@ -49,3 +49,7 @@ benes = halving 2
 -- a baseline card has none: it ends with the columns of its halves, and their places are its outputs
 abbrev pub baseline : ℕ → Meaning
 baseline = halving 1
+
+-- what every family keeps: its cards have one or two outer columns
+abbrev pub OneOrTwo : ℕ → Type 0
+OneOrTwo w = (w ≡ 1) ⊎ (w ≡ 2)

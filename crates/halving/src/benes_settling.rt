@@ -2,7 +2,7 @@
 ghost use Rattle.std.specs.Prelude.{◌≡◌, ℕ, ◌*◌, ◌^◌, ◌<◌, ◌≤◌, length};
 ghost use Rattle.halving.specs.Halving.{lines_at, cells_at, benes};
 ghost use Rattle.halving.specs.Column.{Open, Forcing};
-ghost use Rattle.halving.specs.Outer.{value, Bits, Pairable, Holding, Keeping, last_cell, last_position, Tried, Sought, Written};
+ghost use Rattle.halving.specs.Outer.{value, Bits, Pairable, Holding, Keeping, last_cell, last_position, Tried, Sought};
 
 use super::forcing::{fill_column, put, start_column};
 use super::halves::half_plan;
@@ -87,7 +87,7 @@ fn try_columns(h: usize, n: usize, pairs: &[u8; 16], holds: &[u8], setting: &mut
 }
 
 // Settles a card of this level. A first column is taken back when its last column or a half fails.
-fn settle_level(level: usize, pairs: &[u8; 16], holds: &[u8], setting: &mut [u8]) -> bool
+pub(super) fn settle_level(level: usize, pairs: &[u8; 16], holds: &[u8], setting: &mut [u8]) -> bool
     requires small { level < 4 }
     requires size { length setting.old ≡ cells_at 2 level }
     requires sized { length holds.now ≡ cells_at 2 level }
@@ -120,28 +120,4 @@ fn settle_level(level: usize, pairs: &[u8; 16], holds: &[u8], setting: &mut [u8]
         }
     }
     false
-}
-
-// Settles the card on the scratch list, and copies what was found. Where no setting fits, the buffer stays as it was.
-pub(super) fn settle_all(
-    level: usize,
-    pairs: &[u8; 16],
-    holds: &[u8],
-    scratch: &mut [u8],
-    setting: &mut [u8],
-) -> bool
-    requires small { level < 4 }
-    requires room { length scratch.old ≡ cells_at 2 level }
-    requires size { length setting.old ≡ cells_at 2 level }
-    requires sized { length holds.now ≡ cells_at 2 level }
-    requires pairable { Pairable (lines_at level) pairs.now }
-    requires holding { Holding (cells_at 2 level) holds.now }
-    ensures { Written (benes level) pairs.now holds.now setting.old setting.new result }
-{
-    if settle_level(level, pairs, holds, scratch) {
-        setting.copy_from_slice(scratch);
-        true
-    } else {
-        false
-    }
 }

@@ -9,16 +9,17 @@ use card::plan::Plan;
 use column::columns::ColumnCard;
 use column::families::{Bbc, Klw};
 use column::leaders::Leaders;
-use halving::baseline::Baseline;
-use halving::benes::Benes;
+use halving::cards::HalvingCard;
+use halving::families::{Baseline, Benes};
+use halving::outer::OuterColumns;
 
 // A card of a kind that is not turned.
 #[derive(Drop)]
 pub enum Plain {
     Klw(ColumnCard<Klw>),
     Bbc(ColumnCard<Bbc>),
-    Benes(Benes),
-    Baseline(Baseline),
+    Benes(HalvingCard<Benes>),
+    Baseline(HalvingCard<Baseline>),
 }
 
 // Each call is that of the card within.
@@ -93,10 +94,10 @@ pub fn build_plain(kind: u8, lines: u8) -> Result<Plain, Fault>
         return Ok(Plain::Bbc(ColumnCard::new(Bbc, lines)?));
     }
     if kind == Benes::KIND {
-        return Ok(Plain::Benes(Benes::new(lines)?));
+        return Ok(Plain::Benes(HalvingCard::new(Benes, lines)?));
     }
     if kind == Baseline::KIND {
-        return Ok(Plain::Baseline(Baseline::new(lines)?));
+        return Ok(Plain::Baseline(HalvingCard::new(Baseline, lines)?));
     }
     Err(Fault {
         cause: Cause::UnknownCard,

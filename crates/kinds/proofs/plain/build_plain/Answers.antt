@@ -26,7 +26,7 @@ returns-in_err-new-3 c =
     rw (p.1, p.2) (λ m k. c.in_err-new-3.ensures.count (halving_lines (omega (arith, c.if-kind-eq-KIND.true)) k), c.in_err-new-3.ensures.is)
 
 pub returns-then-kind-eq-KIND : goal.returns-then-kind-eq-KIND
-returns-then-kind-eq-KIND c = rw c.if-kind-eq-KIND.true (PlainKind.benes_card c.in_ok-new-3.ensures)
+returns-then-kind-eq-KIND c = rw c.if-kind-eq-KIND.true (PlainKind.benes_card c.in_ok-new-3.ensures.0)
 
 pub returns-in_err-new-4 : goal.returns-in_err-new-4
 returns-in_err-new-4 c =
@@ -34,7 +34,7 @@ returns-in_err-new-4 c =
     rw (p.1, p.2) (λ m k. c.in_err-new-4.ensures.count (halving_lines (omega (arith, c.if-kind-eq-KIND-2.true)) k), c.in_err-new-4.ensures.is)
 
 pub returns-then-kind-eq-KIND-2 : goal.returns-then-kind-eq-KIND-2
-returns-then-kind-eq-KIND-2 c = rw c.if-kind-eq-KIND-2.true (PlainKind.baseline_card c.in_ok-new-4.ensures)
+returns-then-kind-eq-KIND-2 c = rw c.if-kind-eq-KIND-2.true (PlainKind.baseline_card c.in_ok-new-4.ensures.0)
 
 pub returns : goal.returns
 returns c = (λ m k. no_plain (λ e. c.if-kind-number.false (e ∙ sym c.number.ensures)) (λ e. c.if-kind-number-2.false (e ∙ sym c.number-2.ensures)) c.if-kind-eq-KIND.false c.if-kind-eq-KIND-2.false k, refl)
