@@ -1,19 +1,15 @@
 // Checks a sheet that stands as text on standard input, and writes the verdict in words.
 #![tactic(auto)]
 
-use anyhow::anyhow;
-use sheet_text::phrases::{cause_words, misread_words, verdict_words};
+use sheet_text::phrases::{cause_words, verdict_words};
 use sheet_text::reading::parse;
 use std::io::Read;
 
 // A refusal is an answer; a text that is not in its form is an error.
-fn run(rt: &HostRuntime) -> anyhow::Result<()> {
+fn main(rt: HostRuntime) -> anyhow::Result<()> {
     let mut text = Vec::new(rt.alloc());
     rt.stdin().read_to_end(&mut text)?;
-    let request = match parse(text.as_slice()) {
-        Ok(request) => request,
-        Err(misread) => return Err(anyhow!(misread_words(misread))),
-    };
+    let request = parse(text.as_slice())?;
     match request.check() {
         Ok(verdict) => rt.println(verdict_words(verdict))?,
         Err(fault) => {
@@ -25,8 +21,4 @@ fn run(rt: &HostRuntime) -> anyhow::Result<()> {
         }
     }
     Ok(())
-}
-
-fn main(rt: HostRuntime) -> anyhow::Result<()> {
-    run(&rt)
 }

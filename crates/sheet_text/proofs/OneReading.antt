@@ -1,10 +1,15 @@
 -- The words of a text make one request, or break one rule first.
-use Rattle.std.proofs.Common.{◌≡◌, ℕ, suc, ◌+◌, ◌≤◌, ◌⊎◌, List, [], ◌∷◌, length, get_or, Ok, Err, codes, Result, sym, refl, ap, ◌∙◌, subst, inl, inr, ⊎_elim, arith}
+use Rattle.std.proofs.Common.{◌≡◌, ℕ, suc, ◌+◌, ◌≤◌, ◌⊎◌, List, [], ◌∷◌, length, get_or, Ok, Err, None, Option, codes, Result, sym, refl, ap, ◌∙◌, subst, inl, inr, ⊎_elim, arith}
+use Rattle.std.specs.Option.{ok_or}
+use Rattle.std.specs.Result.{IsErrAnd}
+use Rattle.std.proofs.lemmas.Result.{err_from_is_err_and}
 use Rattle.sheets.specs.Sole.{Sole}
 use Rattle.words.specs.Numbers.{Number, Digit}
 use Rattle.sheet_text.specs.declared.reading.Misread.{Misread}
-use Rattle.sheet_text.specs.Lists.{Word, Entry, Entering, Entered, Unentered, Unnamed, Valued, Listed}
-use Rattle.sheet_text.specs.Requests.{CardRead, ListRead, Asked, Reading}
+use Rattle.sheet_text.proofs.Entries.{heads, tails}
+use Rattle.sheet_text.specs.Lists.{Word, Entry, Entering, Entered, Unentered, Unnamed, Unvalued, Valued, Listed}
+use Rattle.sheet_text.specs.declared.request.Request.{Request}
+use Rattle.sheet_text.specs.Requests.{outcome, CardRead, ListRead, Asked, Reading}
 
 number_one : {w : Word} {v u : ℕ} → Number w v → Number w u → u ≡ v
 number_one a b = sym b.value ∙ a.value
@@ -18,19 +23,13 @@ entry_one (inl p) (inr n) = absurd (dash_digit p.0 n)
 entry_one (inr n) (inl q) = absurd (dash_digit q.0 n)
 entry_one (inr n) (inr k) = number_one n k
 
-heads : {ws : List Word} {a b : Word} {x y : List Word} → ws ≡ a ∷ x → ws ≡ b ∷ y → b ≡ a
-heads p q = cc
-
-tails : {ws : List Word} {a b : Word} {x y : List Word} → ws ≡ a ∷ x → ws ≡ b ∷ y → y ≡ x
-tails p q = cc
-
 entering_one : {ws : List Word} {v u : ℕ} {a b : List Word} → Entering ws v a → Entering ws u b → (u ≡ v) × (b ≡ a)
-entering_one {u = u} x y = (entry_one x.entry (subst (λ (w : Word). Entry w u) (heads x.are y.are) y.entry), tails x.are y.are)
+entering_one {u = u} x y = (entry_one x.entry (subst (λ (w : Word). Entry w u) (heads y.are x.are) y.entry), tails y.are x.are)
 
 valued_one : {ws : List Word} {name : Word} {v u : ℕ} {a b : List Word} → Valued ws name v a → Valued ws name u b → (u ≡ v) × (b ≡ a)
 valued_one {u = u} x y =
-    let t : y.word ∷ _ ≡ x.word ∷ _ = tails x.are y.are in
-    (number_one x.number (subst (λ (w : Word). Number w u) (heads refl (sym t)) y.number), tails refl (sym t))
+    let t : y.word ∷ _ ≡ x.word ∷ _ = tails y.are x.are in
+    (number_one x.number (subst (λ (w : Word). Number w u) (heads (sym t) refl) y.number), tails (sym t) refl)
 
 -- entries after n others, as many as there are but at most 64 in all
 abbrev Ended : ℕ → List ℕ → List Word → Type 0
@@ -54,13 +53,16 @@ listed_one {ws = ws} {vs = vs} {us = us} {a = a} {b = b} x y =
     entered_one 0 ws vs us a b x.entered y.entered (⊎_elim (λ z. inl (omega arith)) inr x.ended) (⊎_elim (λ z. inl (omega arith)) inr y.ended) (omega (arith, x.few)) (omega (arith, y.few))
 
 list_one : {ws : List Word} {name : Word} {vs us : List ℕ} {a b : List Word} → ListRead ws name vs a → ListRead ws name us b → (us ≡ vs) × (b ≡ a)
-list_one {us = us} {b = b} x y = listed_one x.listed (subst (λ (z : List Word). Listed z us b) (tails x.named y.named) y.listed)
+list_one {us = us} {b = b} x y = listed_one x.listed (subst (λ (z : List Word). Listed z us b) (tails y.named x.named) y.listed)
 
 card_one : {ws : List Word} {k n j m : ℕ} {a b : List Word} → CardRead ws k n a → CardRead ws j m b → (j ≡ k) × (m ≡ n) × (b ≡ a)
 card_one {m = m} {b = b} x y =
     let first : (_ ≡ _) × (y.between ≡ x.between) = valued_one x.kind y.kind in
     let second : (_ ≡ _) × (_ ≡ _) = valued_one x.lines (subst (λ (z : List Word). Valued z (codes "lines") m b) first.1 y.lines) in
     (first.0, second.0, second.1)
+
+pub card_read : {ws between rest : List Word} {k n : ℕ} → Valued ws (codes "kind") k between → Valued between (codes "lines") n rest → CardRead ws k n rest
+card_read v u = record { between = _; kind = v; lines = u }
 
 plan_one : {ws : List Word} {k n j m : ℕ} {ps qs : List ℕ} {a a' b b' : List Word} → CardRead ws k n a → ListRead a (codes "plan") ps b → CardRead ws j m a' → ListRead a' (codes "plan") qs b' → (qs ≡ ps) × (b' ≡ b)
 plan_one {qs = qs} {b' = b'} c p d q = list_one p (subst (λ (z : List Word). ListRead z (codes "plan") qs b') (card_one c d).2 q)
@@ -72,7 +74,7 @@ sheet_one : {c c' d d' : List Word} {ss ts : List ℕ} → c' ≡ c → ListRead
 sheet_one {d' = d'} {ts = ts} e s t = list_one s (subst (λ (z : List Word). ListRead z (codes "sheet") ts d') e t)
 
 -- a part that is missing is not there
-no_lines_clash : {ws : List Word} {k j m : ℕ} {a b : List Word} → Valued ws (codes "kind") k a → ((n : ℕ) (rest : List Word) → Valued a (codes "lines") n rest → ⊥) → CardRead ws j m b → ⊥
+no_lines_clash : {ws : List Word} {k j m : ℕ} {a b : List Word} → Valued ws (codes "kind") k a → Unvalued a (codes "lines") → CardRead ws j m b → ⊥
 no_lines_clash {m = m} {b = b} v none c = none m b (subst (λ (z : List Word). Valued z (codes "lines") m b) (valued_one v c.kind).1 c.lines)
 
 unnamed_clash : {a b c : List Word} {name : Word} {vs : List ℕ} → b ≡ a → Unnamed a name → ListRead b name vs c → ⊥
@@ -138,3 +140,10 @@ reading_one ws r q₀ (Reading.read q a b d c p h s) (Reading.read q' a' b' d' c
 
 pub the_reading : (ws : List Word) (r : Result Asked Misread) → Reading ws r → Sole (Reading ws) r
 the_reading ws r a = record { holds = a; only = λ q b. reading_one ws r q a b }
+
+-- what the exit of a `?` answers where a part is missing
+pub missing : {A : Type 0} {ws : List Word} {o : Option A} {e d : Misread} (r : Result Request Misread) → o ≡ None → Err d ≡ ok_or o e → IsErrAnd r (λ y. y ≡ d) → Reading ws (Err e) → Sole (Reading ws) (outcome r)
+missing {ws = ws} {o = o} {e = e} {d = d} r none gave left a =
+    let p = err_from_is_err_and r left in
+    let same : d ≡ e = cc (none, gave) in
+    rw (p.1, p.2, same) (the_reading _ _ a)

@@ -3,7 +3,7 @@ use Rattle.std.specs.Prelude.{◌≡◌, ℕ, List, [], ◌∷◌, Ok, Err, code
 use Rattle.sheet_text.specs.declared.request.Request.{Request}
 use Rattle.sheet_text.specs.declared.reading.Misread.{Misread}
 use Rattle.sheet_text.specs.declared.reading.Misread.TheVariants.{Kind, Lines, Plan, Holds, Sheet, End}
-use Rattle.sheet_text.specs.Lists.{Word, values, Unnamed, Valued, Listed}
+use Rattle.sheet_text.specs.Lists.{Word, Unnamed, Unvalued, Valued, Listed}
 
 -- the kind and the line count of a card, and the words after them
 pub record CardRead (ws : List Word) (k n : ℕ) (rest : List Word) : Type 0 where
@@ -27,13 +27,13 @@ pub record Asked : Type 0 where
 
 -- the numbers of what the reader answers
 abbrev pub outcome : Result Request Misread → Result Asked Misread
-outcome (Ok q) = Ok (record { kind = q.kind; lines = q.lines; plan = values q.plan; holds = values q.holds; sheet = values q.sheet })
+outcome (Ok q) = Ok (record { kind = q.kind; lines = q.lines; plan = q.plan.items; holds = q.holds.items; sheet = q.sheet.items })
 outcome (Err e) = Err e
 
 -- a whole request; or the first part that is missing or not in its form, with the parts before it
 pub data Reading (ws : List Word) : Result Asked Misread → Type 0 where
-  no_kind : ((k : ℕ) (rest : List Word) → Valued ws (codes "kind") k rest → ⊥) → Reading ws (Err Kind)
-  no_lines : (k : ℕ) (a : List Word) → Valued ws (codes "kind") k a → ((n : ℕ) (rest : List Word) → Valued a (codes "lines") n rest → ⊥) → Reading ws (Err Lines)
+  no_kind : Unvalued ws (codes "kind") → Reading ws (Err Kind)
+  no_lines : (k : ℕ) (a : List Word) → Valued ws (codes "kind") k a → Unvalued a (codes "lines") → Reading ws (Err Lines)
   no_plan : (k n : ℕ) (a : List Word) → CardRead ws k n a → Unnamed a (codes "plan") → Reading ws (Err Plan)
   no_holds : (k n : ℕ) (ps : List ℕ) (a b : List Word) → CardRead ws k n a → ListRead a (codes "plan") ps b → Unnamed b (codes "holds") → Reading ws (Err Holds)
   no_sheet : (k n : ℕ) (ps hs : List ℕ) (a b c : List Word) → CardRead ws k n a → ListRead a (codes "plan") ps b → ListRead b (codes "holds") hs c → Unnamed c (codes "sheet") → Reading ws (Err Sheet)

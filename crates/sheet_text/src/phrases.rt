@@ -1,8 +1,7 @@
-// Refusals, verdicts and misread texts in words.
+// Refusals and verdicts in words.
 ghost use Rattle.std.specs.Prelude.{◌≡◌};
-ghost use Rattle.sheet_text.specs.Phrases.{cause_words, verdict_words, misread_words};
+ghost use Rattle.sheet_text.specs.Phrases.{cause_words, verdict_words};
 
-use super::reading::Misread;
 use card::fault::Cause;
 use sheets::Verdict;
 
@@ -39,22 +38,5 @@ pub fn verdict_words(verdict: Verdict) -> &'static str
     match verdict {
         Verdict::First => "the sheet fits and comes first",
         Verdict::Other => "the sheet fits, but another setting comes first",
-    }
-}
-
-// What should stand where a text is not in its form.
-pub fn misread_words(misread: Misread) -> &'static str
-    ensures { result.now ≡ misread_words misread }
-{
-    match misread {
-        Misread::Kind => "the text begins with `kind` and a number from 0 to 255",
-        Misread::Lines => "after the kind come `lines` and a number from 0 to 255",
-        Misread::Plan => "after the line count comes `plan`",
-        Misread::Holds =>
-            "after `plan` come at most 64 numbers from 0 to 255 or -, and then `holds`",
-        Misread::Sheet =>
-            "after `holds` come at most 64 numbers from 0 to 255 or -, and then `sheet`",
-        Misread::End =>
-            "after `sheet` come at most 64 numbers from 0 to 255 or -, and nothing else",
     }
 }

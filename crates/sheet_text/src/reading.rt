@@ -1,17 +1,19 @@
 // The reader of requests: `kind K lines N plan .. holds .. sheet ..`, with blanks and comments between.
-ghost use Rattle.std.specs.Prelude.{◌≡◌, drop};
+ghost use Rattle.std.specs.Prelude.{◌≡◌, Some, ◌∷◌, MatchOption};
 ghost use Rattle.sheets.specs.Sole.{Sole};
 ghost use Rattle.words.specs.Words.{words_of};
-ghost use Rattle.sheet_text.specs.Lists.{values, Valued, Headed, Keyed, Listed, EntryOf, NextEntry};
-ghost use Rattle.sheet_text.specs.Requests.{Reading, outcome};
+ghost use Rattle.sheet_text.specs.Lists.{Entering, EntryOf, Listed, Unentered, Unnamed, Unvalued, Valued};
+ghost use Rattle.sheet_text.specs.Phrases.{misread_words};
+ghost use Rattle.sheet_text.specs.Requests.{ListRead, Reading, outcome};
 
-use super::numbers::Numbers;
-use super::request::Request;
+use super::request::{Numbers, Request};
 use card::NONE;
-use words::{Span, next_word, number};
+use std::error::Error;
+use std::fmt;
+use words::{number, split_word};
 
 // Which part of a request is missing or not in its form.
-#[derive(Clone, Copy, PartialEq, Eq, Debug)]
+#[derive(Clone, Copy, PartialEq, Eq, Debug, Drop)]
 pub enum Misread {
     Kind,
     Lines,
@@ -21,114 +23,102 @@ pub enum Misread {
     End,
 }
 
-// A number after its name, and where it ends.
-#[derive(Clone, Copy)]
-struct Found {
-    value: u8,
-    end: usize,
+// What should stand there.
+impl fmt::Display for Misread {
+    ghost output = { λ m. Some (misread_words m) };
+
+    fn fmt<W: fmt::Write>(&self, f: &mut fmt::Formatter<W>) -> fmt::Result {
+        f.write_str(match self {
+            Misread::Kind => "the text begins with `kind` and a number from 0 to 255",
+            Misread::Lines => "after the kind come `lines` and a number from 0 to 255",
+            Misread::Plan => "after the line count comes `plan`",
+            Misread::Holds =>
+                "after `plan` come at most 64 numbers from 0 to 255 or -, and then `holds`",
+            Misread::Sheet =>
+                "after `holds` come at most 64 numbers from 0 to 255 or -, and then `sheet`",
+            Misread::End =>
+                "after `sheet` come at most 64 numbers from 0 to 255 or -, and nothing else",
+        })
+    }
 }
 
-// Numbers after one another, and where they end.
-#[derive(Clone, Copy)]
-struct Run {
-    numbers: Numbers,
-    end: usize,
-}
+impl Error for Misread {}
 
 // The number that a word of a list writes: `-` for none, else in decimal.
 fn entry(word: &[u8]) -> Option<u8>
     ensures { EntryOf word.now result }
 {
-    if word == b"-".as_slice() {
-        Some(NONE)
-    } else {
-        number(word)
+    match word {
+        [b'-'] => Some(NONE),
+        _ => number(word),
     }
 }
 
-// Where the next word ends, if it is this name.
-fn keyword(text: &[u8], from: usize, name: &[u8]) -> Option<usize>
-    ensures { Headed (words_of (drop from text.now)) name.now (λ end. words_of (drop end text.now)) result }
+// The text after this name, if the name comes first.
+fn named<'a>(text: &'a [u8], name: &[u8]) -> Option<&'a [u8]>
+    ensures { MatchOption result (Unnamed (words_of text.now) name.now) (λ rest. words_of text.now ≡ name.now ∷ words_of rest.now) }
 {
-    let Span { start, end } = next_word(text, from)?;
-    if &text[start..end] == name {
-        Some(end)
-    } else {
-        None
-    }
+    let (word, rest) = split_word(text)?;
+    if word == name { Some(rest) } else { None }
 }
 
-// The number that follows this name.
-fn keyed(text: &[u8], from: usize, name: &[u8]) -> Option<Found>
-    ensures { Keyed (words_of (drop from text.now)) name.now (λ end. words_of (drop end text.now)) result }
+// The number after this name, and the text after it.
+fn keyed<'a>(text: &'a [u8], name: &[u8]) -> Option<(u8, &'a [u8])>
+    ensures { MatchOption result (Unvalued (words_of text.now) name.now) (λ p. Valued (words_of text.now) name.now p.0 (words_of p.1.now)) }
 {
-    let at = keyword(text, from, name)?;
-    let Span { start, end } = next_word(text, at)?;
-    let value = number(&text[start..end])?;
-    Some(Found { value, end })
+    let (word, rest) = split_word(named(text, name)?)?;
+    Some((number(word)?, rest))
 }
 
-// The number that the next word writes in a list.
-fn entry_at(text: &[u8], from: usize) -> Option<Found>
-    ensures { NextEntry (words_of (drop from text.now)) (λ end. words_of (drop end text.now)) result }
+// The number that the first word writes in a list, and the text after it.
+fn entered(text: &[u8]) -> Option<(u8, &[u8])>
+    ensures { MatchOption result (Unentered (words_of text.now)) (λ p. Entering (words_of text.now) p.0 (words_of p.1.now)) }
 {
-    let Span { start, end } = next_word(text, from)?;
-    let value = entry(&text[start..end])?;
-    Some(Found { value, end })
+    let (word, rest) = split_word(text)?;
+    Some((entry(word)?, rest))
 }
 
-// The numbers from here on, up to the first word that writes none.
-fn listed(text: &[u8], from: usize) -> Run
-    ensures { Listed (words_of (drop from text.now)) (values result.numbers) (words_of (drop result.end text.now)) }
+// The numbers up to the first word that writes none, and the text after them.
+fn listed(text: &[u8]) -> (Numbers, &[u8])
+    ensures { Listed (words_of text.now) result.0.items (words_of result.1.now) }
 {
-    let mut items = [0; 64];
-    let mut at = from;
-    for count in 0..64 {
-        let Some(found) = entry_at(text, at) else {
-            return Run {
-                numbers: Numbers::new(items, count),
-                end: at,
-            };
+    let mut numbers = Numbers::new();
+    let mut rest = text;
+    while !numbers.is_full() {
+        let Some((value, after)) = entered(rest) else {
+            break;
         };
-        items[count] = found.value;
-        at = found.end;
+        numbers.push(value);
+        rest = after;
     }
-    Run {
-        numbers: Numbers::new(items, 64),
-        end: at,
-    }
+    (numbers, rest)
+}
+
+// The list after this name, and the text after it.
+fn list_after<'a>(text: &'a [u8], name: &[u8]) -> Option<(Numbers, &'a [u8])>
+    ensures { MatchOption result (Unnamed (words_of text.now) name.now) (λ p. ListRead (words_of text.now) name.now p.0.items (words_of p.1.now)) }
+{
+    let entries = named(text, name)?;
+    Some(listed(entries))
 }
 
 // Reads a request.
 pub fn parse(text: &[u8]) -> Result<Request, Misread>
     ensures { Sole (Reading (words_of text.now)) (outcome result) }
 {
-    let Some(kind) = keyed(text, 0, b"kind") else {
-        return Err(Misread::Kind);
-    };
-    let Some(lines) = keyed(text, kind.end, b"lines") else {
-        return Err(Misread::Lines);
-    };
-    let Some(at) = keyword(text, lines.end, b"plan") else {
-        return Err(Misread::Plan);
-    };
-    let plan = listed(text, at);
-    let Some(at) = keyword(text, plan.end, b"holds") else {
-        return Err(Misread::Holds);
-    };
-    let holds = listed(text, at);
-    let Some(at) = keyword(text, holds.end, b"sheet") else {
-        return Err(Misread::Sheet);
-    };
-    let sheet = listed(text, at);
-    if next_word(text, sheet.end).is_some() {
-        return Err(Misread::End);
+    let (kind, text) = keyed(text, b"kind").ok_or(Misread::Kind)?;
+    let (lines, text) = keyed(text, b"lines").ok_or(Misread::Lines)?;
+    let (plan, text) = list_after(text, b"plan").ok_or(Misread::Plan)?;
+    let (holds, text) = list_after(text, b"holds").ok_or(Misread::Holds)?;
+    let (sheet, text) = list_after(text, b"sheet").ok_or(Misread::Sheet)?;
+    match split_word(text) {
+        Some(_) => Err(Misread::End),
+        None => Ok(Request {
+            kind,
+            lines,
+            plan,
+            holds,
+            sheet,
+        }),
     }
-    Ok(Request {
-        kind: kind.value,
-        lines: lines.value,
-        plan: plan.numbers,
-        holds: holds.numbers,
-        sheet: sheet.numbers,
-    })
 }

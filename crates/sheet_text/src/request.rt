@@ -1,14 +1,16 @@
 // What a text asks to be checked.
 ghost use Rattle.sheets.specs.Sole.{Sole};
 ghost use Rattle.by_kind.specs.Answering.{SheetAnswer};
-ghost use Rattle.sheet_text.specs.Lists.{values};
 
-use super::numbers::Numbers;
+use arrayvec::ArrayVec;
 use card::fault::Fault;
 use sheets::Verdict;
 
+// At most 64 numbers, as many as a card can have cells.
+pub type Numbers = ArrayVec<u8, 64>;
+
 // A card by its kind and line count, a plan, holds and a sheet.
-#[derive(Clone, Copy)]
+#[derive(Clone, Drop)]
 pub struct Request {
     pub kind: u8,
     pub lines: u8,
@@ -20,7 +22,7 @@ pub struct Request {
 impl Request {
     // The verdict on the sheet.
     pub fn check(&self) -> Result<Verdict, Fault>
-        ensures { Sole (SheetAnswer self.now.kind self.now.lines (values self.now.plan) (values self.now.holds) (values self.now.sheet)) result }
+        ensures { Sole (SheetAnswer self.now.kind self.now.lines self.now.plan.items self.now.holds.items self.now.sheet.items) result }
     {
         by_kind::check(
             self.kind,

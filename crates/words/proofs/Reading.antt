@@ -1,9 +1,11 @@
 -- How the words of a text go on from one byte to the next.
-use Rattle.std.proofs.Common.{◌≡◌, ℕ, suc, ◌+◌, ◌-◌, ◌<◌, ◌≤◌, List, [], ◌∷◌, ◌++◌, length, get_or, take, drop, sym, refl, ap, ◌∙◌, subst, ⊎_elim, suc-le-suc, add-one, arith, length-drop, drop-cons, eq-eqb, ne_eqb, le-leb}
+use Rattle.std.proofs.Common.{◌⊎◌, inl, inr, true, false, not, ◌==◌, ◌≡◌, ℕ, ◌<◌, ◌≤◌, List, [], ◌∷◌, ◌++◌, length, take, drop, refl, ap, ◌∙◌, ⊎_elim, arith, eq-eqb, ne_eqb, le-leb}
 use borrow.Author.Tests.{lt-leb}
-use Rattle.std.proofs.lemmas.List.{take-append-drop, drop_all, drop-drop, get_or-take, get_or-drop, length-take-le}
+use Rattle.std.proofs.lemmas.List.{append_assoc}
 use Rattle.std.proofs.lemmas.Bool.{cases_eq, cases_lt}
-use Rattle.words.specs.Words.{Wordy, kept, uncommented, comment_rest, begun, runs, words_of}
+use Rattle.std.proofs.Math.Numerals.{one-add}
+use Rattle.std.specs.List.{prefix_len}
+use Rattle.words.specs.Words.{wordy, Wordy, Started, kept, uncommented, comment_rest, begun, runs, words_of}
 
 kept_hash : (b : ℕ) (bs : List ℕ) → b ≡ 35 → uncommented (b ∷ bs) ≡ comment_rest bs
 unfolding kept
@@ -33,7 +35,7 @@ runs_word : (b : ℕ) (bs : List ℕ) → 32 < b → runs (b ∷ bs) ≡ begun b
 unfolding runs
 runs_word b bs h = rw (lt-leb b 32 h)
 
-pub no_words : words_of [] ≡ []
+no_words : words_of [] ≡ []
 unfolding runs kept
 no_words = refl
 
@@ -61,68 +63,68 @@ begun_gap : (b : ℕ) (bs : List ℕ) (ws : List (List ℕ)) → Gap bs → begu
 begun_gap b [] ws h = refl
 begun_gap b (c ∷ bs) ws h = rw (le-leb c 32 h)
 
--- a run of bytes of words, and then none, is a word
-run : (w : List ℕ) (b : ℕ) (rest : List ℕ) → Wordy b → ((k : ℕ) → k < length w → Wordy (get_or w k 0)) → Ended rest → words_of (b ∷ (w ++ rest)) ≡ (b ∷ w) ∷ words_of rest
-run [] b rest here all ended = ap runs (kept_other b rest here.1) ∙ runs_word b (uncommented rest) here.0 ∙ begun_gap b (uncommented rest) (words_of rest) (ended_gap rest ended)
-run (c ∷ w) b rest here all ended =
-    let next : Wordy c = all 0 (omega arith) in
-    let later : words_of (c ∷ (w ++ rest)) ≡ (c ∷ w) ∷ words_of rest = run w c rest next (λ k h. all (suc k) (suc-le-suc h)) ended in
-    let e : uncommented (c ∷ (w ++ rest)) ≡ c ∷ uncommented (w ++ rest) = kept_other c (w ++ rest) next.1 in
-    ap runs (kept_other b (c ∷ (w ++ rest)) here.1)
-    ∙ runs_word b (uncommented (c ∷ (w ++ rest))) here.0
-    ∙ joined (uncommented (c ∷ (w ++ rest))) (uncommented (w ++ rest)) e next later
+-- whether a byte stands in a word
+wordy_cases : (b : ℕ) → (Wordy b × (wordy b ≡ true)) ⊎ ((Wordy b → ⊥) × (wordy b ≡ false))
+wordy_cases b =
+    ⊎_elim
+    (λ lt. ⊎_elim (λ e. inr (λ h. h.1 e, rw (lt-leb b 32 lt, eq-eqb b 35 e) refl)) (λ ne. inl ((lt, ne), rw (lt-leb b 32 lt, ne_eqb b 35 ne) refl)) (cases_eq b 35))
+    (λ le. inr (λ h. omega (arith, h.0), rw (le-leb b 32 le) refl))
+    (cases_lt 32 b)
+
+-- a byte of a word, and then none, is a word
+alone : (b : ℕ) (bs : List ℕ) → Wordy b → Ended bs → words_of (b ∷ bs) ≡ (b ∷ []) ∷ words_of bs
+alone b bs h e = ap runs (kept_other b bs h.1) ∙ runs_word b (uncommented bs) h.0 ∙ begun_gap b (uncommented bs) (words_of bs) (ended_gap bs e)
+
+-- one byte more at the front of a word
+longer : (b c : ℕ) (bs w : List ℕ) (ws : List (List ℕ)) → Wordy b → Wordy c → words_of (c ∷ bs) ≡ (c ∷ w) ∷ ws → words_of (b ∷ c ∷ bs) ≡ (b ∷ c ∷ w) ∷ ws
+longer b c bs w ws h here later =
+    ap runs (kept_other b (c ∷ bs) h.1)
+    ∙ runs_word b (uncommented (c ∷ bs)) h.0
+    ∙ joined (uncommented (c ∷ bs)) (uncommented bs) (kept_other c bs here.1) later
   where
-    joined : (x y : List ℕ) → x ≡ c ∷ y → Wordy c → runs x ≡ (c ∷ w) ∷ words_of rest → begun b x (runs x) ≡ (b ∷ (c ∷ w)) ∷ words_of rest
-    joined x y e next later = rw later (rw e (rw (lt-leb c 32 next.0)))
+    joined : (x y : List ℕ) → x ≡ c ∷ y → runs x ≡ (c ∷ w) ∷ ws → begun b x (runs x) ≡ (b ∷ c ∷ w) ∷ ws
+    joined x y e f = rw f (rw e (rw (lt-leb c 32 here.0)))
 
-module _ (text : List ℕ) (i : ℕ) (inside : i < length text) where
-  at : drop i text ≡ get_or text i 0 ∷ drop (i + 1) text
-  at = drop-cons text i 0 inside ∙ ap (λ (k : ℕ). get_or text i 0 ∷ drop k text) (sym (add-one i))
+-- the word that begins with a byte of a word goes on up to the first byte that is of none
+word_cut : (b : ℕ) (bs : List ℕ) → Wordy b → words_of (b ∷ bs) ≡ (b ∷ take (prefix_len wordy bs) bs) ∷ words_of (drop (prefix_len wordy bs) bs)
+word_cut b [] h = alone b [] h tt
+word_cut b (c ∷ bs) h =
+    ⊎_elim
+    (λ yes. rw (yes.1, one-add) (longer b c bs (take (prefix_len wordy bs) bs) (words_of (drop (prefix_len wordy bs) bs)) h yes.0 (word_cut c bs yes.0)))
+    (λ no. rw no.1 (alone b (c ∷ bs) h no.0))
+    (wordy_cases c)
 
-  pub comment_more : (get_or text i 0 ≡ 10 → ⊥) → comment_rest (drop i text) ≡ comment_rest (drop (i + 1) text)
-  comment_more ne = ap comment_rest at ∙ rest_other (get_or text i 0) (drop (i + 1) text) ne
+word_first : (t : List ℕ) → Started t → 1 ≤ length (take (prefix_len wordy t) t) → words_of t ≡ take (prefix_len wordy t) t ∷ words_of (drop (prefix_len wordy t) t)
+word_first [] h some = absurd (omega (arith, some))
+word_first (b ∷ bs) h some = ⊎_elim (λ yes. rw (yes.1, one-add) (word_cut b bs h)) (λ no. absurd (no.0 h)) (wordy_cases b)
 
-  pub comment_done : get_or text i 0 ≡ 10 → comment_rest (drop i text) ≡ uncommented (drop i text)
-  comment_done e = ap comment_rest at ∙ rest_newline (get_or text i 0) (drop (i + 1) text) e ∙ sym (ap uncommented at)
+word_none : (t : List ℕ) → Started t → length (take (prefix_len wordy t) t) ≡ 0 → words_of t ≡ []
+word_none [] h none = no_words
+word_none (b ∷ bs) h none = ⊎_elim (λ yes. absurd (omega (arith, rw (yes.1, one-add) at none))) (λ no. absurd (no.0 h)) (wordy_cases b)
 
-  pub comment_past : get_or text i 0 ≡ 35 → (r : ℕ) → comment_rest (drop (i + 1) text) ≡ uncommented (drop r text) → words_of (drop i text) ≡ words_of (drop r text)
-  comment_past e r h = ap words_of at ∙ ap runs (kept_hash (get_or text i 0) (drop (i + 1) text) e) ∙ ap runs h
+-- a text that begins with a byte of a word, or is empty, cut where the first word ends
+module _ (text word rest : List ℕ) (n : ℕ) (starts : Started text) (cut : n ≡ prefix_len wordy text) (front : word ≡ take n text) (back : rest ≡ drop n text) where
+  pub first_word : 1 ≤ length word → words_of text ≡ word ∷ words_of rest
+  first_word some = rw (front, back, cut) (word_first text starts (rw (← cut, ← front) some))
 
-  pub blank_past : (get_or text i 0 ≡ 35 → ⊥) → get_or text i 0 ≤ 32 → words_of (drop i text) ≡ words_of (drop (i + 1) text)
-  blank_past ne h = ap words_of at ∙ ap runs (kept_other (get_or text i 0) (drop (i + 1) text) ne) ∙ runs_blank (get_or text i 0) (uncommented (drop (i + 1) text)) h
+  pub no_word : length word ≡ 0 → words_of text ≡ []
+  no_word none = word_none text starts (rw (← cut, ← front) none)
 
-pub comment_all : (text : List ℕ) (i : ℕ) → length text ≤ i → comment_rest (drop i text) ≡ uncommented (drop (length text) text)
-comment_all text i h = ap comment_rest (drop_all i text h) ∙ rest_end ∙ sym (ap uncommented (drop_all (length text) text (omega arith)))
+-- the comment goes on up to the end of its line
+pub comment_cut : (bs : List ℕ) → comment_rest bs ≡ uncommented (drop (prefix_len (λ b. not (b == 10)) bs) bs)
+comment_cut [] = rest_end
+comment_cut (b ∷ bs) = ⊎_elim (λ e. rw (eq-eqb b 10 e) (rest_newline b bs e)) (λ ne. rw (ne_eqb b 10 ne, one-add) (rest_other b bs ne ∙ comment_cut bs)) (cases_eq b 10)
 
-pub past_words : (text : List ℕ) (i : ℕ) → length text ≤ i → words_of (drop i text) ≡ []
-past_words text i h = ap words_of (drop_all i text h) ∙ no_words
+pub comment_past : (b : ℕ) (bs : List ℕ) → b ≡ 35 → words_of (b ∷ bs) ≡ words_of (drop (prefix_len (λ b. not (b == 10)) bs) bs)
+comment_past b bs e = ap runs (kept_hash b bs e ∙ comment_cut bs)
 
--- the bytes of a word from its start to its end
-module _ (text : List ℕ) (s e : ℕ) (some : s < e) (within : e ≤ length text) (all : (k : ℕ) → s ≤ k → k < e → Wordy (get_or text k 0)) (ends : e < length text → Wordy (get_or text e 0) → ⊥) where
-  wordy_at : (k : ℕ) → k < e - s → Wordy (get_or (take (e - s) (drop s text)) k 0)
-  wordy_at k h = rw (get_or-take (e - s) (drop s text) k 0 h, get_or-drop s text k 0) (all (s + k) (omega arith) (omega arith))
+pub blank_past : (b : ℕ) (bs : List ℕ) → (b ≡ 35 → ⊥) → wordy b ≡ false → words_of (b ∷ bs) ≡ words_of bs
+blank_past b bs ne e =
+    ⊎_elim
+    (λ lt. let t : wordy b ≡ true = rw (lt-leb b 32 lt, ne_eqb b 35 ne) refl in absurd (cc (t, e)))
+    (λ le. ap runs (kept_other b bs ne) ∙ runs_blank b (uncommented bs) le)
+    (cases_lt 32 b)
 
-  size : length (take (e - s) (drop s text)) ≡ e - s
-  size = length-take-le (e - s) (drop s text) (simp length-drop (omega arith))
-
-  ended : (t : List ℕ) → t ≡ drop e text → Ended t
-  ended [] z = tt
-  ended (b ∷ bs) z =
-      ⊎_elim
-      (λ h w. ends h (subst Wordy (ap (λ (l : List ℕ). get_or l 0 0) (z ∙ drop-cons text e 0 h)) w))
-      (λ h w. let q : ◌≡◌ {A = List ℕ} (b ∷ bs) [] = z ∙ drop_all e text h in omega (arith, ap length q))
-      (cases_lt e (length text))
-
-  whole : drop s text ≡ take (e - s) (drop s text) ++ drop e text
-  whole = sym (take-append-drop (e - s) (drop s text)) ∙ ap (λ (t : List ℕ). take (e - s) (drop s text) ++ t) (drop-drop (e - s) s text ∙ ap (λ (k : ℕ). drop k text) (omega arith))
-
-  spelt : (w : List ℕ) → length w ≡ e - s → ((k : ℕ) → k < e - s → Wordy (get_or w k 0)) → words_of (w ++ drop e text) ≡ w ∷ words_of (drop e text)
-  spelt [] z wordy = absurd (omega (arith, z))
-  spelt (b ∷ w) z wordy = run w b (drop e text) (wordy 0 (omega arith)) (λ k h. wordy (suc k) (omega (arith, z))) (ended (drop e text) refl)
-
-  pub one_word : words_of (drop s text) ≡ take (e - s) (drop s text) ∷ words_of (drop e text)
-  one_word = ap words_of whole ∙ spelt (take (e - s) (drop s text)) size wordy_at
-
--- a word that starts has a byte
-pub longer : (text : List ℕ) (s e : ℕ) → s < length text → Wordy (get_or text s 0) → s ≤ e → (e < length text → Wordy (get_or text e 0) → ⊥) → s < e
-longer text s e inside here le ends = ⊎_elim (λ h. h) (λ h. let z : s ≡ e = omega arith in absurd (ends (omega arith) (subst (λ (k : ℕ). Wordy (get_or text k 0)) z here))) (cases_lt s e)
+-- what comes after the first byte of an end of a text, past so many more, is an end of it too
+pub farther : {text rest others : List ℕ} {b : ℕ} (front more left : List ℕ) → text ≡ front ++ rest → rest ≡ b ∷ others → others ≡ more ++ left → text ≡ (front ++ (b ∷ more)) ++ left
+farther {b = b} front more left p q r = rw append_assoc (p ∙ ap (λ (t : List ℕ). front ++ t) (q ∙ ap (λ (t : List ℕ). b ∷ t) r))

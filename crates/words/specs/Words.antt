@@ -1,6 +1,5 @@
 -- The words of a text.
-use Rattle.std.specs.Prelude.{◌≡◌, ℕ, ◌-◌, ◌<◌, ◌≤◌, Bool, cond, List, [], ◌∷◌, length, take, drop, Some, None, Option, ◌==◌, ◌≢◌, nat_le}
-use Rattle.words.specs.declared.Span.{Span}
+use Rattle.std.specs.Prelude.{not, ◌&&◌, ◌≡◌, ℕ, ◌<◌, ◌≤◌, Bool, cond, List, [], ◌∷◌, ◌++◌, length, ◌==◌, ◌≢◌, nat_le}
 
 -- a byte that stands between words: the space, the end of a line, and every other byte up to the space
 abbrev pub blank : ℕ → Bool
@@ -9,6 +8,10 @@ blank b = nat_le b 32
 -- a byte that stands in a word: no blank, and not '#'
 abbrev pub Wordy : ℕ → Type 0
 Wordy b = (32 < b) × (b ≢ 35)
+
+-- whether it does
+abbrev pub wordy : ℕ → Bool
+wordy b = not (blank b) && not (b == 35)
 
 -- a text without its comments; within a comment all is left out up to the end of its line
 unfoldable pub kept : Bool → List ℕ → List ℕ
@@ -42,17 +45,18 @@ runs (b ∷ bs) = cond (blank b) (runs bs) (begun b bs (runs bs))
 abbrev pub words_of : List ℕ → List (List ℕ)
 words_of text = runs (uncommented text)
 
--- the part of a text from one byte up to another
-abbrev pub part : List ℕ → Span → List ℕ
-part text s = take (s.end - s.start) (drop s.start text)
+-- one text is the end of another
+abbrev pub End : List ℕ → List ℕ → Type 0
+End text rest = (front : List ℕ) × (text ≡ front ++ rest)
 
--- the next word of a text from a byte on, with the words after it
-pub record NextIs (text : List ℕ) (from : ℕ) (s : Span) : Type 0 where
-  pub after : from < s.end
-  pub forward : s.start ≤ s.end
-  pub within : s.end ≤ length text
-  pub words : words_of (drop from text) ≡ part text s ∷ words_of (drop s.end text)
+-- the text begins with a byte of a word, or is empty
+abbrev pub Started : List ℕ → Type 0
+Started [] = Unit {0}
+Started (b ∷ bs) = Wordy b
 
-abbrev pub Next : List ℕ → ℕ → Option Span → Type 0
-Next text from (Some s) = NextIs text from s
-Next text from None = words_of (drop from text) ≡ []
+-- the first word of a text, with what stands before it and after it
+pub record First (text word rest : List ℕ) : Type 0 where
+  pub gap : List ℕ
+  pub stands : text ≡ gap ++ word ++ rest
+  pub some : 1 ≤ length word
+  pub words : words_of text ≡ word ∷ words_of rest

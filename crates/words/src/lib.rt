@@ -2,8 +2,9 @@
 // `#` up to the end of its line.
 #![tactic(auto)]
 
-ghost use Rattle.std.specs.Prelude.{◌≡◌, ℕ, suc, ◌<◌, ◌≤◌, length, drop, slice_index};
-ghost use Rattle.words.specs.Words.{words_of, uncommented, comment_rest, Wordy, Next};
+ghost use Rattle.std.specs.Prelude.{◌≡◌, ◌==◌, ◌≤◌, [], length, not, MatchOption};
+ghost use Rattle.std.specs.List.{prefix_len};
+ghost use Rattle.words.specs.Words.{wordy, words_of, End, Started, First};
 ghost use Rattle.words.specs.Numbers.{Numbered};
 
 const COMMENT: u8 = b'#';
@@ -12,78 +13,59 @@ const NEWLINE: u8 = b'\n';
 
 const SPACE: u8 = b' ';
 
-// Where a word stands in a text: from its first byte up to the byte after its last.
-#[derive(Clone, Copy)]
-pub struct Span {
-    pub start: usize,
-    pub end: usize,
+// Whether a byte stands in a word.
+fn is_wordy(byte: u8) -> bool
+    ensures { result ≡ wordy byte }
+{
+    byte > SPACE && byte != COMMENT
 }
 
-// Where a comment ends: at the end of its line, or of the text.
-fn comment_end(text: &[u8], from: usize) -> usize
-    requires { from ≤ length text.now }
-    ensures after { from ≤ result }
+// How many bytes stand before the end of the line.
+fn line_len(text: &[u8]) -> usize
+    ensures count { result ≡ prefix_len (λ b. not (b == NEWLINE)) text.now }
     ensures within { result ≤ length text.now }
-    ensures rest { comment_rest (drop from text.now) ≡ uncommented (drop result text.now) }
 {
-    for i in from..text.len() {
-        if text[i] == NEWLINE {
-            return i;
-        }
-    }
-    text.len()
+    text.iter().take_while(|b| **b != NEWLINE).count()
 }
 
-// Where the next word starts, or the end of the text.
-fn word_start(text: &[u8], from: usize) -> usize
-    requires { from ≤ length text.now }
-    ensures after { from ≤ result }
+// How many bytes of a word stand first.
+fn word_len(text: &[u8]) -> usize
+    ensures count { result ≡ prefix_len wordy text.now }
     ensures within { result ≤ length text.now }
-    ensures starts { result < length text.now → Wordy (slice_index text.now result) }
-    ensures rest { words_of (drop from text.now) ≡ words_of (drop result text.now) }
 {
-    let mut i = from;
-    while i < text.len() {
-        if text[i] == COMMENT {
-            i = comment_end(text, i + 1);
-        } else if text[i] <= SPACE {
-            i += 1;
+    text.iter().take_while(|b| is_wordy(**b)).count()
+}
+
+// The text from its first word on, or its end.
+fn from_word(text: &[u8]) -> &[u8]
+    ensures end { End text.now result.now }
+    ensures starts { Started result.now }
+    ensures words { words_of text.now ≡ words_of result.now }
+{
+    let mut rest = text;
+    while let Some((first, others)) = rest.split_first() {
+        if *first == COMMENT {
+            rest = others.split_at(line_len(others)).1;
+        } else if is_wordy(*first) {
+            return rest;
         } else {
-            return i;
+            rest = others;
         }
     }
-    i
+    rest
 }
 
-// Where the word that starts here ends.
-fn word_end(text: &[u8], from: usize) -> usize
-    requires { from ≤ length text.now }
-    ensures after { from ≤ result }
-    ensures within { result ≤ length text.now }
-    ensures all { (k : ℕ) → from ≤ k → k < result → Wordy (slice_index text.now k) }
-    ensures ends { result < length text.now → Wordy (slice_index text.now result) → ⊥ }
+// The first word of a text, and the text after it.
+pub fn split_word(text: &[u8]) -> Option<(&[u8], &[u8])>
+    ensures { MatchOption result (words_of text.now ≡ []) (λ p. First text.now p.0.now p.1.now) }
 {
-    for i in from..text.len() {
-        if text[i] <= SPACE || text[i] == COMMENT {
-            return i;
-        }
+    let start = from_word(text);
+    let (word, rest) = start.split_at(word_len(start));
+    if word.is_empty() {
+        None
+    } else {
+        Some((word, rest))
     }
-    text.len()
-}
-
-// The next word of a text from a byte on.
-pub fn next_word(text: &[u8], from: usize) -> Option<Span>
-    ensures { Next text.now from result }
-{
-    if from >= text.len() {
-        return None;
-    }
-    let start = word_start(text, from);
-    if start >= text.len() {
-        return None;
-    }
-    let end = word_end(text, start);
-    Some(Span { start, end })
 }
 
 // The number that a word writes in decimal, if it is a byte.
@@ -93,15 +75,12 @@ pub fn number(word: &[u8]) -> Option<u8>
     if word.is_empty() {
         return None;
     }
-    let mut value: u16 = 0;
+    let mut value: u8 = 0;
     for digit in word {
-        if *digit < b'0' || *digit > b'9' {
+        if !digit.is_ascii_digit() {
             return None;
         }
-        value = 10 * value + u16::from(*digit - b'0');
-        if value > 255 {
-            return None;
-        }
+        value = value.checked_mul(10)?.checked_add(*digit - b'0')?;
     }
-    Some(value as u8)
+    Some(value)
 }

@@ -1,31 +1,14 @@
-use Rattle.std.proofs.Common.{ℕ, ◌+◌, ◌-◌, ◌*◌, length, get_or, drop, sym, ap, ◌∙◌, arith, below_more, false-eqb}
+use Rattle.std.proofs.Common.{length, sym, ap, ◌∙◌, arith, false-eqb}
 use Rattle.std.proofs.lemmas.List.{drop_all}
 use Rattle.words.specs.Numbers.{decimal}
-use Rattle.words.proofs.Decimals.{at_least, decimal_more}
+use Rattle.words.proofs.Decimals.{too_large}
 use Rattle.words.proofs.number.Goals as goal
 
-pub returns-then-value-gt255 : goal.returns-then-value-gt255
-returns-then-value-gt255 c v n =
-    let e = decimal_more c.loop-digit.value c.args.word.now c.loop-digit.digit-index c.loop-digit-test.true in
-    omega (
-      arith,
-      c.loop-digit.invariant.2,
-      e,
-      at_least (10 * c.loop-digit.value + (get_or c.args.word.now c.loop-digit.digit-index 0 - 48)) (drop (c.loop-digit.digit-index + 1) c.args.word.now),
-      n.value,
-      n.small,
-      c.from.ensures,
-      c.if-value-gt255.true,
-    )
+pub returns-in_err-checked_mul : goal.returns-in_err-checked_mul
+returns-in_err-checked_mul c = rw c.from_residual.ensures (too_large _ _ _ c.loop-digit-test.true c.loop-digit.invariant.2 (omega (arith, c.in_err-checked_mul.ensures)))
 
-pub loop-digit-preserved : goal.loop-digit-preserved
-loop-digit-preserved c = (
-  c.if-value-gt255.false,
-  below_more _ _ c.loop-digit.invariant.1 (c.if-digit-lt48.false, c.if-digit-gt57.false),
-  ap (λ (d : ℕ). decimal (10 * c.loop-digit.value + d) (drop (c.loop-digit.digit-index + 1) c.args.word.now)) c.from.ensures
-      ∙ sym (decimal_more c.loop-digit.value c.args.word.now c.loop-digit.digit-index c.loop-digit-test.true)
-      ∙ c.loop-digit.invariant.2,
-)
+pub returns-in_err-value : goal.returns-in_err-value
+returns-in_err-value c = rw c.from_residual-in_err-value.ensures (too_large _ _ _ c.loop-digit-test.true c.loop-digit.invariant.2 (omega (arith, c.in_err-value.ensures, c.in_ok-checked_mul.ensures)))
 
 pub returns : goal.returns
 returns c =
