@@ -1,26 +1,13 @@
 -- Which kinds are known, and with how many lines.
-use Rattle.std.proofs.Common.{◌≡◌, ℕ, ◌-◌, ◌<◌, ◌≤◌, refl, subst, arith}
+use Rattle.std.proofs.Common.{◌≡◌, ℕ, ◌-◌, ◌<◌, ◌≤◌, subst, arith}
 use Rattle.card.specs.Meaning.{Meaning}
 use Rattle.column.specs.Building.{Buildable}
 use Rattle.column.specs.Families.{klw, bbc}
 use Rattle.column.specs.Passing.{column_card}
-use Rattle.halving.specs.Building.{Buildable as HalvingCount}
 use Rattle.turned.specs.Turning.{turned_meaning}
 use Rattle.kinds.specs.Kinds.{PlainKind, Kind}
 
--- a plain kind is one of those in the table, with a count that it can have
-pub column_lines : {k n : ℕ} {m : Meaning} → k ≤ 2 → PlainKind k n m → Buildable n
-column_lines h (PlainKind.klw_card b) = b
-column_lines h (PlainKind.bbc_card b) = b
-column_lines h (PlainKind.benes_card b) = absurd (omega (arith, h))
-column_lines h (PlainKind.baseline_card b) = absurd (omega (arith, h))
-
-pub halving_lines : {k n : ℕ} {m : Meaning} → 3 ≤ k → PlainKind k n m → HalvingCount n
-halving_lines h (PlainKind.klw_card b) = absurd (omega (arith, h))
-halving_lines h (PlainKind.bbc_card b) = absurd (omega (arith, h))
-halving_lines h (PlainKind.benes_card b) = b.count
-halving_lines h (PlainKind.baseline_card b) = b.count
-
+-- the numbers of plain kinds
 some : {k n : ℕ} {m : Meaning} → PlainKind k n m → 1 ≤ k
 some (PlainKind.klw_card b) = omega arith
 some (PlainKind.bbc_card b) = omega arith
@@ -32,12 +19,6 @@ few (PlainKind.klw_card b) = omega arith
 few (PlainKind.bbc_card b) = omega arith
 few (PlainKind.benes_card b) = omega arith
 few (PlainKind.baseline_card b) = omega arith
-
-pub no_plain : {k n : ℕ} {m : Meaning} → (k ≡ 1 → ⊥) → (k ≡ 2 → ⊥) → (k ≡ 3 → ⊥) → (k ≡ 4 → ⊥) → PlainKind k n m → ⊥
-no_plain a b c d (PlainKind.klw_card h) = a refl
-no_plain a b c d (PlainKind.bbc_card h) = b refl
-no_plain a b c d (PlainKind.benes_card h) = c refl
-no_plain a b c d (PlainKind.baseline_card h) = d refl
 
 -- the column cards, at the numbers that the code has
 pub klw_kind : (k n j : ℕ) → k ≡ 1 → j ≡ n → Buildable n → PlainKind k n (column_card klw (j - 1))

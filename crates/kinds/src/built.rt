@@ -3,7 +3,7 @@ ghost use Rattle.kinds.specs.Kinds.{built_meaning};
 ghost use Rattle.kinds.specs.Building.{Built as IsBuilt};
 ghost use Rattle.kinds.specs.Soundness.{built_sound};
 
-use super::plain::{Plain, build_plain};
+use super::plain::{CardName, Plain};
 use card::Card;
 use card::fault::Fault;
 use card::plan::Plan;
@@ -19,7 +19,7 @@ pub enum Built {
     Turned(Turned<Plain>),
 }
 
-// Each call is that of the card within.
+// Each call is that of the card within, by a match, as for a plain card.
 impl Card for Built {
     ghost meaning = { built_meaning };
 
@@ -68,13 +68,19 @@ impl Card for Built {
     }
 }
 
-// The card of this kind with so many lines.
-pub fn build(kind: u8, lines: u8) -> Result<Built, Fault>
-    ensures { IsBuilt kind lines result }
-{
-    if kind > TURNED {
-        Ok(Built::Turned(Turned::new(build_plain(kind - TURNED, lines)?)))
-    } else {
-        Ok(Built::Plain(build_plain(kind, lines)?))
+impl CardName {
+    // The card of this kind with so many lines.
+    pub fn build(self) -> Result<Built, Fault>
+        ensures { IsBuilt self.kind self.lines result }
+    {
+        if self.kind > TURNED {
+            let beneath = CardName {
+                kind: self.kind - TURNED,
+                lines: self.lines,
+            };
+            Ok(Built::Turned(Turned::new(beneath.build_plain()?)))
+        } else {
+            Ok(Built::Plain(self.build_plain()?))
+        }
     }
 }

@@ -13,6 +13,13 @@ use halving::cards::HalvingCard;
 use halving::families::{Baseline, Benes};
 use halving::outer::OuterColumns;
 
+// A card by the numbers that records and C have for it: its kind, and how many lines it has.
+#[derive(Clone, Copy, PartialEq, Eq, Debug)]
+pub struct CardName {
+    pub kind: u8,
+    pub lines: u8,
+}
+
 // A card of a kind that is not turned.
 #[derive(Drop)]
 pub enum Plain {
@@ -22,7 +29,7 @@ pub enum Plain {
     Baseline(HalvingCard<Baseline>),
 }
 
-// Each call is that of the card within.
+// Each call is that of the card within, by a match: nothing of today's hands a call on to whichever card an enum holds.
 impl Card for Plain {
     ghost meaning = { plain_meaning };
 
@@ -83,25 +90,22 @@ impl Card for Plain {
     }
 }
 
-// The card of this kind with so many lines, if the kind is not a turned one.
-pub fn build_plain(kind: u8, lines: u8) -> Result<Plain, Fault>
-    ensures { BuiltPlain kind lines result }
-{
-    if kind == Klw.number() {
-        return Ok(Plain::Klw(ColumnCard::new(Klw, lines)?));
+impl CardName {
+    // The card of this kind with so many lines, if the kind is not a turned one.
+    pub fn build_plain(self) -> Result<Plain, Fault>
+        ensures { BuiltPlain self.kind self.lines result }
+    {
+        let lines = self.lines;
+        match self.kind {
+            Klw::KIND => Ok(Plain::Klw(ColumnCard::new(Klw, lines)?)),
+            Bbc::KIND => Ok(Plain::Bbc(ColumnCard::new(Bbc, lines)?)),
+            Benes::KIND => Ok(Plain::Benes(HalvingCard::new(Benes, lines)?)),
+            Baseline::KIND => Ok(Plain::Baseline(HalvingCard::new(Baseline, lines)?)),
+            _ => Err(Fault {
+                cause: Cause::UnknownCard,
+                layer: Layer::Card,
+                place: lines,
+            }),
+        }
     }
-    if kind == Bbc.number() {
-        return Ok(Plain::Bbc(ColumnCard::new(Bbc, lines)?));
-    }
-    if kind == Benes::KIND {
-        return Ok(Plain::Benes(HalvingCard::new(Benes, lines)?));
-    }
-    if kind == Baseline::KIND {
-        return Ok(Plain::Baseline(HalvingCard::new(Baseline, lines)?));
-    }
-    Err(Fault {
-        cause: Cause::UnknownCard,
-        layer: Layer::Card,
-        place: lines,
-    })
 }

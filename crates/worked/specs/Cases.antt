@@ -1,5 +1,5 @@
 -- What a case says: on the card of a kind with so many lines, which setting is the first that fits some pairs and holds.
-use Rattle.std.specs.Prelude.{ℕ, zero, suc, List, [], ◌∷◌, ◌++◌, length, replicate, slice_set}
+use Rattle.std.specs.Prelude.{ℕ, List, [], ◌∷◌, replicate, slice_set}
 use Rattle.card.specs.Meaning.{Meaning}
 use Rattle.card.specs.Settling.{none, First, Unfit}
 use Rattle.kinds.specs.Kinds.{Kind}
@@ -39,21 +39,3 @@ pub record Right (c : Case) : Type 0 where
 abbrev pub AllRight : List Case → Type 0
 AllRight [] = Unit {0}
 AllRight (c ∷ cs) = Right c × AllRight cs
-
--- a case as numbers: kind, lines, pairs, how many holds, each with its cell and its position, and 1 with the setting or 0 for none
-abbrev hold_numbers : List Entry → List ℕ
-hold_numbers [] = []
-hold_numbers (e ∷ es) = e.at ∷ e.is ∷ hold_numbers es
-
-abbrev outcome_numbers : Outcome → List ℕ
-outcome_numbers (first l) = 1 ∷ l
-outcome_numbers nothing = 0 ∷ []
-
-abbrev case_numbers : Case → List ℕ
-case_numbers c = c.kind ∷ c.lines ∷ (c.pairs ++ (length c.holds ∷ (hold_numbers c.holds ++ outcome_numbers c.outcome)))
-
--- those of the case at an index, and nothing past the last
-abbrev pub numbers_at : List Case → ℕ → List ℕ
-numbers_at [] i = []
-numbers_at (c ∷ cs) zero = case_numbers c
-numbers_at (c ∷ cs) (suc i) = numbers_at cs i
