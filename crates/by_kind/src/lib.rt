@@ -9,7 +9,7 @@ ghost use Rattle.by_kind.specs.Answering.{SheetAnswer, PlaceAnswer, SettleAnswer
 use card::Card;
 use card::fault::{Cause, Fault, Layer};
 use card::plan::Plan;
-use kinds::built::build;
+use kinds::plain::CardName;
 use sheets::Verdict;
 
 // A plan of these pairs for so many lines.
@@ -31,15 +31,14 @@ fn planned(lines: u8, pairs: &[u8]) -> Result<Plan, Fault>
 
 // Checks a sheet for pairs and holds.
 pub fn check(
-    kind: u8,
-    lines: u8,
+    name: CardName,
     pairs: &[u8],
     holds: &[u8],
     sheet: &[u8],
 ) -> Result<Verdict, Fault>
-    ensures { Sole (SheetAnswer kind lines pairs.now holds.now sheet.now) result }
+    ensures { Sole (SheetAnswer name.kind name.lines pairs.now holds.now sheet.now) result }
 {
-    let card = build(kind, lines)?;
+    let card = name.build()?;
     let plan = planned(card.lines(), pairs)?;
     let cells = card.cells() as usize;
     let mut table = [0; 64];
@@ -48,24 +47,23 @@ pub fn check(
 }
 
 // The column sheet: where an input stands after so many columns under a setting.
-pub fn place(kind: u8, lines: u8, setting: &[u8], input: u8, passed: u8) -> Result<u8, Fault>
-    ensures { Sole (PlaceAnswer kind lines setting.now input passed) result }
+pub fn place(name: CardName, setting: &[u8], input: u8, passed: u8) -> Result<u8, Fault>
+    ensures { Sole (PlaceAnswer name.kind name.lines setting.now input passed) result }
 {
-    let card = build(kind, lines)?;
+    let card = name.build()?;
     card.place(setting, input, passed)
 }
 
 // Fills the buffer with the first setting that fits pairs and holds.
 pub fn settle(
-    kind: u8,
-    lines: u8,
+    name: CardName,
     pairs: &[u8],
     holds: &[u8],
     setting: &mut [u8],
 ) -> Result<(), Fault>
-    ensures { Sole (SettleAnswer kind lines pairs.now holds.now setting.old) (result, setting.new) }
+    ensures { Sole (SettleAnswer name.kind name.lines pairs.now holds.now setting.old) (result, setting.new) }
 {
-    let card = build(kind, lines)?;
+    let card = name.build()?;
     let plan = planned(card.lines(), pairs)?;
     card.settle(&plan, holds, setting)
 }

@@ -5,6 +5,8 @@ ghost use Rattle.sheets.specs.Verdicts.{verdict_number};
 ghost use Rattle.by_kind.specs.Answering.{SheetAnswer, PlaceAnswer};
 ghost use Rattle.codes.specs.Codes.{Coded, CodedSettling};
 
+use kinds::plain::CardName;
+
 // Checks a sheet for a plan and holds: 0 if it is the first setting that fits, 1 if it fits and another comes first.
 #[unsafe(no_mangle)]
 pub extern "C" fn wimbleyam_check(
@@ -16,7 +18,7 @@ pub extern "C" fn wimbleyam_check(
 ) -> u32
     ensures { Coded verdict_number (SheetAnswer kind lines plan.now holds.now sheet.now) result }
 {
-    codes::check(kind, lines, plan, holds, sheet)
+    codes::check(CardName { kind, lines }, plan, holds, sheet)
 }
 
 // The column sheet: the place of an input after so many columns under a setting.
@@ -30,7 +32,7 @@ pub extern "C" fn wimbleyam_place(
 ) -> u32
     ensures { Coded (λ place. place) (PlaceAnswer kind lines setting.now input columns) result }
 {
-    codes::place(kind, lines, setting, input, columns)
+    codes::place(CardName { kind, lines }, setting, input, columns)
 }
 
 // Fills the buffer with the first setting that fits a plan and holds, and answers 0; or leaves it as it was.
@@ -44,5 +46,5 @@ pub extern "C" fn wimbleyam_settle(
 ) -> u32
     ensures { CodedSettling kind lines plan.now holds.now out.old out.new result }
 {
-    codes::settle(kind, lines, plan, holds, out)
+    codes::settle(CardName { kind, lines }, plan, holds, out)
 }

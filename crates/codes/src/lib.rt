@@ -7,6 +7,7 @@ ghost use Rattle.by_kind.specs.Answering.{SheetAnswer, PlaceAnswer};
 ghost use Rattle.codes.specs.Codes.{fault_code, Coded, CodedSettling};
 
 use card::fault::Fault;
+use kinds::plain::CardName;
 
 // A refusal as a number: 65,536 times its cause, 256 times its layer, and its place.
 fn code(fault: Fault) -> u32
@@ -18,30 +19,30 @@ fn code(fault: Fault) -> u32
 }
 
 // Checks a sheet for a plan and holds: 0 if it is the first setting that fits, 1 if it fits and another comes first.
-pub fn check(kind: u8, lines: u8, plan: &[u8], holds: &[u8], sheet: &[u8]) -> u32
-    ensures { Coded verdict_number (SheetAnswer kind lines plan.now holds.now sheet.now) result }
+pub fn check(name: CardName, plan: &[u8], holds: &[u8], sheet: &[u8]) -> u32
+    ensures { Coded verdict_number (SheetAnswer name.kind name.lines plan.now holds.now sheet.now) result }
 {
-    match by_kind::check(kind, lines, plan, holds, sheet) {
+    match by_kind::check(name, plan, holds, sheet) {
         Ok(verdict) => u32::from(verdict.number()),
         Err(fault) => code(fault),
     }
 }
 
 // The column sheet: the place of an input after so many columns under a setting.
-pub fn place(kind: u8, lines: u8, setting: &[u8], input: u8, columns: u8) -> u32
-    ensures { Coded (λ place. place) (PlaceAnswer kind lines setting.now input columns) result }
+pub fn place(name: CardName, setting: &[u8], input: u8, columns: u8) -> u32
+    ensures { Coded (λ place. place) (PlaceAnswer name.kind name.lines setting.now input columns) result }
 {
-    match by_kind::place(kind, lines, setting, input, columns) {
+    match by_kind::place(name, setting, input, columns) {
         Ok(place) => u32::from(place),
         Err(fault) => code(fault),
     }
 }
 
 // Fills the buffer with the first setting that fits a plan and holds, and answers 0; or leaves it as it was.
-pub fn settle(kind: u8, lines: u8, plan: &[u8], holds: &[u8], out: &mut [u8]) -> u32
-    ensures { CodedSettling kind lines plan.now holds.now out.old out.new result }
+pub fn settle(name: CardName, plan: &[u8], holds: &[u8], out: &mut [u8]) -> u32
+    ensures { CodedSettling name.kind name.lines plan.now holds.now out.old out.new result }
 {
-    match by_kind::settle(kind, lines, plan, holds, out) {
+    match by_kind::settle(name, plan, holds, out) {
         Ok(()) => 0,
         Err(fault) => code(fault),
     }

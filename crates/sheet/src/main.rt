@@ -1,7 +1,6 @@
 // Checks a sheet that stands as text on standard input, and writes the verdict in words.
 #![tactic(auto)]
 
-use sheet_text::phrases::{cause_words, verdict_words};
 use sheet_text::reading::parse;
 use std::io::Read;
 
@@ -11,13 +10,13 @@ fn main(rt: HostRuntime) -> anyhow::Result<()> {
     rt.stdin().read_to_end(&mut text)?;
     let request = parse(text.as_slice())?;
     match request.check() {
-        Ok(verdict) => rt.println(verdict_words(verdict))?,
+        Ok(verdict) => rt.println(verdict)?,
         Err(fault) => {
-            let words = cause_words(fault.cause);
+            let cause = fault.cause;
             let number = fault.number();
             let layer = fault.layer_number();
             let place = fault.place;
-            println!(rt; "refused: {words} (number {number}, layer {layer}, place {place})")?;
+            println!(rt; "refused: {cause} (number {number}, layer {layer}, place {place})")?;
         }
     }
     Ok(())

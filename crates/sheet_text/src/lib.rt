@@ -1,6 +1,5 @@
 // The text form of a check: a request as text, and its verdict in words.
 #![tactic(auto)]
 
-pub mod phrases;
 pub mod reading;
 pub mod request;

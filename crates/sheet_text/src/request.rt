@@ -4,6 +4,7 @@ ghost use Rattle.by_kind.specs.Answering.{SheetAnswer};
 
 use arrayvec::ArrayVec;
 use card::fault::Fault;
+use kinds::plain::CardName;
 use sheets::Verdict;
 
 // At most 64 numbers, as many as a card can have cells.
@@ -25,8 +26,7 @@ impl Request {
         ensures { Sole (SheetAnswer self.now.kind self.now.lines self.now.plan.items self.now.holds.items self.now.sheet.items) result }
     {
         by_kind::check(
-            self.kind,
-            self.lines,
+            CardName { kind: self.kind, lines: self.lines },
             self.plan.as_slice(),
             self.holds.as_slice(),
             self.sheet.as_slice(),

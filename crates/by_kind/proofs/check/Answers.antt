@@ -33,7 +33,7 @@ returns-in_err-settle c =
     let p = err_from_is_err_and c.from_residual-in_err-settle.result c.from_residual-in_err-settle.ensures.1 in
     the_sheet _ _ _ _ _ _
     (rw (p.1, p.2)
-    (sheet_unsettled c.args.kind c.args.lines (built_meaning c.in_ok-card.card) c.in_ok-card.ensures c.args.pairs.now c.args.holds.now c.args.sheet.now
+    (sheet_unsettled c.args.name.kind c.args.name.lines (built_meaning c.in_ok-card.card) c.in_ok-card.ensures c.args.pairs.now c.args.holds.now c.args.sheet.now
     (subst (λ (n : ℕ). PlanFine n c.args.pairs.now) c.lines.ensures c.in_ok-plan.ensures.0)
     (c.cells-cells.result - 0) (omega (arith, c.cells-cells.ensures)) (built_sound c.in_ok-card.card).few_cells (pairs_of c.in_ok-plan.plan) c.in_ok-plan.ensures.1
     c.in_err-settle.field-0.0 c.in_err-settle.ensures.0))
@@ -44,7 +44,7 @@ slice_bounds-check-end c = simp length-append (omega (arith, c.settle.auto.setti
 pub returns : goal.returns
 returns c =
     the_sheet _ _ _ _ _ _
-    (sheet_checked c.args.kind c.args.lines (built_meaning c.in_ok-card.card) c.in_ok-card.ensures c.args.pairs.now c.args.holds.now c.args.sheet.now
+    (sheet_checked c.args.name.kind c.args.name.lines (built_meaning c.in_ok-card.card) c.in_ok-card.ensures c.args.pairs.now c.args.holds.now c.args.sheet.now
     (subst (λ (n : ℕ). PlanFine n c.args.pairs.now) c.lines.ensures c.in_ok-plan.ensures.0)
     (c.cells-cells.result - 0) (omega (arith, c.cells-cells.ensures)) (built_sound c.in_ok-card.card).few_cells (pairs_of c.in_ok-plan.plan) c.in_ok-plan.ensures.1
     c.settle.new.setting _ c.check.result c.settle.auto.setting c.in_ok-settle.ensures c.check.ensures)
