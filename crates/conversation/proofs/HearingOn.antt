@@ -1,6 +1,7 @@
 -- One byte more of a conversation.
-use Rattle.std.proofs.Common.{◌≡◌, ℕ, ◌+◌, ◌-◌, ◌<◌, ◌≤◌, cond, List, [], ◌∷◌, ◌++◌, length, take, drop, set, is_ok, IfOk, Ok, Err, Result, sym, refl, ap, ◌∙◌, subst, ⊎_elim, append_assoc, arith, length-append}
-use Rattle.std.proofs.lemmas.List.{append-nil, take_more_set, take-append-le, take_at, take-append-drop}
+use Rattle.std.proofs.Common.{true, false, ◌≡◌, ℕ, ◌+◌, ◌<◌, ◌≤◌, cond, List, [], ◌∷◌, ◌++◌, length, take, drop, is_ok, IfOk, Ok, Err, Result, sym, refl, ap, ◌∙◌, subst, ⊎_elim, append_assoc, arith, length-append}
+use Rattle.std.proofs.lemmas.List.{append-nil, take-append-le, take_at, take-append-drop}
+use Rattle.std.proofs.lemmas.Bool.{both_ways}
 use Rattle.card.specs.declared.fault.Cause.TheVariants.{CutShort}
 use Rattle.card.specs.declared.fault.Layer.TheVariants.{Record}
 use Rattle.card.specs.declared.fault.Fault.{Fault}
@@ -14,11 +15,16 @@ use Rattle.records.proofs.One.{one_reading}
 use Rattle.conversation.specs.declared.talk.Phase.{Phase}
 use Rattle.conversation.specs.declared.talk.Phase.TheVariants.{Waiting, Serving, Over}
 use Rattle.conversation.specs.Talking.{Stage, Conversed, At, Going, Unfinished, Waits, Listening, Ended, lines_at}
-use Rattle.conversation.specs.Answering.{CarriesOn, phase_lines}
+use Rattle.conversation.specs.Answering.{CarriesOn, phase_lines, over_phase}
 
--- the bytes held back and one more, as the code has them
-pub one_more : (pending : List ℕ) (held b : ℕ) → held < length pending → take (held + 1 - 0) (set pending held b) ≡ take held pending ++ b ∷ []
-one_more pending held b h = ap (λ (n : ℕ). take n (set pending held b)) (omega arith) ∙ take_more_set pending held b h
+-- whether a phase is the last
+pub is_over : (p : Phase) → true ≡ over_phase p → p ≡ Over
+is_over Waiting e = absurd (both_ways false refl (sym e))
+is_over (Serving c) e = absurd (both_ways false refl (sym e))
+is_over Over e = refl
+
+pub not_over : (p : Phase) → false ≡ over_phase p → p ≡ Over → ⊥
+not_over p e z = both_ways (over_phase p) (sym e) (ap over_phase z)
 
 -- a phase and the stage that it is at
 same_lines : (p : Phase) (stage : Stage) → At p stage → phase_lines p ≡ lines_at stage

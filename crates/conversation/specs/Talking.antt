@@ -1,5 +1,5 @@
 -- What a conversation in records is: which records have been read, and what has been said to them.
-use Rattle.std.specs.Prelude.{◌≡◌, ℕ, List, [], ◌∷◌, ◌++◌, length, take, Ok, Err}
+use Rattle.std.specs.Prelude.{◌≡◌, ℕ, List, [], ◌∷◌, ◌++◌, length, Ok, Err}
 use Rattle.card.specs.declared.fault.Cause.TheVariants.{UnknownCard, CutShort}
 use Rattle.card.specs.declared.fault.Layer.TheVariants.{Card, Record}
 use Rattle.card.specs.declared.fault.Fault.{Fault}
@@ -105,7 +105,7 @@ pub record Listening (heard said : List ℕ) (p : Phase) (back : List ℕ) : Typ
   pub waits : Waits stage back
 
 abbrev pub Heard : List ℕ → List ℕ → Talk → Type 0
-Heard heard said t = Listening heard said t.phase (take t.held t.pending)
+Heard heard said t = Listening heard said t.phase t.pending.items
 
 -- hearing a piece carries every conversation on: whatever had been heard and said, the piece has been heard too, and what is now in the buffer has been said; what was taken from the buffer before is drained
 abbrev pub Hears : List ℕ → List ℕ → Talk → List ℕ → Talk → Type 0

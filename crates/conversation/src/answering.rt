@@ -7,32 +7,31 @@ use crate::talk::Phase;
 use cabinet::Cabinet;
 use cabinet::command::{Command, Reply};
 use card::Card;
-use kinds::built::{Built, build};
-use records::answer::{Answer, put, put_voice, refusal};
+use kinds::built::Built;
+use kinds::plain::CardName;
+use records::answer::{Answer, put, put_voice};
 use records::frame::decode_all;
 use records::order::Order;
 use std::alloc::AllocError;
 
 // Commissions a cabinet, if the kind is known with so many lines.
-pub(crate) fn commission(kind: u8, lines: u8, out: &mut Vec<u8>) -> Result<Phase, AllocError>
-    ensures { IfOk result (λ p. Commissioned kind lines out.old.items out.new.items p) }
+pub(crate) fn commission(name: CardName, out: &mut Vec<u8>) -> Result<Phase, AllocError>
+    ensures { IfOk result (λ p. Commissioned name.kind name.lines out.old.items out.new.items p) }
 {
-    match build(kind, lines) {
+    match name.build() {
         Ok(card) => {
-            let cells = card.cells() as usize;
             let cabinet = Cabinet::commission(card);
-            let setting = cabinet.setting();
             put(
                 &Answer::Done {
                     moved: 0,
-                    setting: &setting[0..cells],
+                    setting: cabinet.setting(),
                 },
                 out,
             )?;
             Ok(Phase::Serving(cabinet))
         }
         Err(fault) => {
-            put(&refusal(fault), out)?;
+            put(&Answer::from(fault), out)?;
             Ok(Phase::Over)
         }
     }
@@ -47,27 +46,22 @@ fn act(
     ensures { OnOk result (Acted cabinet.old command.entry out.old.items out.new.items cabinet.new) }
 {
     let lines = cabinet.card().lines() as usize;
-    let cells = cabinet.card().cells() as usize;
     match cabinet.obey(command) {
-        Ok(reply) => match reply {
-            Reply::Moved(moved) => {
-                let setting = cabinet.setting();
-                put(
-                    &Answer::Done {
-                        moved,
-                        setting: &setting[0..cells],
-                    },
-                    out,
-                )
-            }
-            Reply::Numbers(table) => put(&Answer::RungOut(&table[0..lines]), out),
-            Reply::Frames(table) => put_voice(&table[0..lines], out),
-        },
-        Err(fault) => put(&refusal(fault), out),
+        Ok(Reply::Moved(moved)) => put(
+            &Answer::Done {
+                moved,
+                setting: cabinet.setting(),
+            },
+            out,
+        ),
+        Ok(Reply::Numbers(table)) => put(&Answer::RungOut(&table[0..lines]), out),
+        Ok(Reply::Frames(table)) => put_voice(&table[0..lines], out),
+        Err(fault) => put(&Answer::from(fault), out),
     }
 }
 
-// The command that an order gives. A commission gives none, and the frames of a voice order are yet to be decoded.
+// The command that an order gives. A commission gives none, and the frames of a voice order are yet to be decoded. A
+// function and no `TryFrom`, which a crate may not write between two types of other crates.
 fn command_of<'a>(order: Order<'a>) -> Option<Command<'a>>
     ensures { Commanded (image order.entry) result }
 {

@@ -6,9 +6,11 @@ ghost use Rattle.conversation.specs.Talking.{Heard, Hears, Finishes, Ended};
 
 use crate::answering::{commission, exchange};
 use crate::talk::{Phase, Talk};
+use arrayvec::ArrayVec;
 use card::Card;
 use card::fault::Cause;
-use records::answer::{put, refusal};
+use kinds::plain::CardName;
+use records::answer::{Answer, put};
 use records::order::Order;
 use records::reader::read;
 use std::alloc::{AllocError, Global};
@@ -29,11 +31,10 @@ fn respond(phase: Phase, order: Order<'_>, out: &mut Vec<u8>) -> Result<Phase, A
 {
     match phase {
         Phase::Waiting => match order {
-            Order::Commission { kind, lines } => commission(kind, lines, out),
+            Order::Commission { kind, lines } => commission(CardName { kind, lines }, out),
             _ => Ok(Phase::Over),
         },
-        Phase::Serving(cabinet) => {
-            let mut cabinet = cabinet;
+        Phase::Serving(mut cabinet) => {
             exchange(&mut cabinet, order, out)?;
             Ok(Phase::Serving(cabinet))
         }
@@ -48,8 +49,7 @@ impl Talk {
     {
         Talk {
             phase: Phase::Waiting,
-            held: 0,
-            pending: [0; 178],
+            pending: ArrayVec::new(),
         }
     }
 
@@ -57,44 +57,27 @@ impl Talk {
     pub fn hear(&mut self, byte: u8, out: &mut Vec<u8>) -> Result<(), AllocError>
         ensures { OnOk result (Hears (byte ∷ []) out.old.items self.old out.new.items self.new) }
     {
-        if let Phase::Over = &self.phase {
+        if self.is_over() {
             return Ok(());
         }
-        let lines = lines_at(&self.phase);
-        let held = self.held + 1;
-        let mut pending = self.pending;
-        pending[self.held] = byte;
-        match read(lines, &pending[0..held]) {
-            Ok(got) => match got {
-                Some((order, _)) => {
-                    let phase = std::mem::replace(&mut self.phase, Phase::Over);
-                    let next = respond(phase, order, out)?;
-                    *self = Talk {
-                        phase: next,
-                        held: 0,
-                        pending,
-                    };
-                    Ok(())
+        self.pending.push(byte);
+        match read(lines_at(&self.phase), self.pending.as_slice()) {
+            Ok(Some((order, _))) => {
+                let phase = std::mem::replace(&mut self.phase, Phase::Over);
+                let next = respond(phase, order, out);
+                self.pending.clear();
+                self.phase = next?;
+            }
+            Ok(None) => {}
+            Err(fault) => {
+                if fault.cause != Cause::CutShort {
+                    self.pending.clear();
+                    put(&Answer::from(fault), out)?;
+                    self.phase = Phase::Over;
                 }
-                None => Ok(()),
-            },
-            Err(fault) => match fault.cause {
-                Cause::CutShort => {
-                    self.pending = pending;
-                    self.held = held;
-                    Ok(())
-                }
-                _ => {
-                    put(&refusal(fault), out)?;
-                    *self = Talk {
-                        phase: Phase::Over,
-                        held: 0,
-                        pending,
-                    };
-                    Ok(())
-                }
-            },
+            }
         }
+        Ok(())
     }
 
     // Hears a piece of any length, and says the answers to the records that end in it.
@@ -111,25 +94,19 @@ impl Talk {
     pub fn is_over(&self) -> bool
         ensures { result ≡ over_phase self.now.phase }
     {
-        match &self.phase {
-            Phase::Over => true,
-            _ => false,
-        }
+        matches!(self.phase, Phase::Over)
     }
 
     // The end of input: says that a record is cut short, if one is.
     pub fn finish(&self, out: &mut Vec<u8>) -> Result<(), AllocError>
         ensures { OnOk result (Finishes out.old.items self.now out.new.items) }
     {
-        let held = self.held;
-        if held == 0 {
+        if self.pending.is_empty() {
             return Ok(());
         }
-        let lines = lines_at(&self.phase);
-        let pending = self.pending;
-        match read(lines, &pending[0..held]) {
+        match read(lines_at(&self.phase), self.pending.as_slice()) {
             Ok(_) => Ok(()),
-            Err(fault) => put(&refusal(fault), out),
+            Err(fault) => put(&Answer::from(fault), out),
         }
     }
 }

@@ -1,6 +1,8 @@
 // Where a conversation stands between two bytes.
 ghost use Rattle.std.specs.Prelude.{◌<◌};
+ghost use Rattle.arrayvec.specs.ArrayVec.{array_vec_len};
 
+use arrayvec::ArrayVec;
 use cabinet::Cabinet;
 use kinds::built::Built;
 
@@ -16,7 +18,6 @@ pub enum Phase {
 #[derive(Drop)]
 pub struct Talk {
     pub(crate) phase: Phase,
-    pub(crate) held: usize,
-    pub(crate) pending: [u8; 178],
-    ghost room: { held < 178 },
+    pub(crate) pending: ArrayVec<u8, 178>,
+    ghost room: { array_vec_len pending < 178 },
 }

@@ -1,5 +1,4 @@
-use Rattle.std.proofs.Common.{◌≡◌, ℕ, ◌-◌, cond, List, ◌++◌, length, take, is_ok, vec_items, sym, ap, ◌∙◌, subst, append_assoc, arith, rules}
-use Rattle.std.proofs.lemmas.List.{length-take-le}
+use Rattle.std.proofs.Common.{ℕ, ◌≤◌, cond, List, ◌++◌, length, is_ok, vec_items, ap, ◌∙◌, sym, subst, append_assoc, rules}
 use Rattle.records.specs.declared.answer.Answer.{Answer}
 use Rattle.records.specs.Reading.{Reads, refused}
 use Rattle.records.specs.Answering.{refusal_bytes, answer_bytes}
@@ -9,12 +8,10 @@ use Rattle.conversation.proofs.talk.Talk.finish.Goals as goal
 
 pub returns-in-Err : goal.returns-in-Err
 returns-in-Err c =
-    let wide : length c.args.self.now.pending ≡ 178 = search rules in
-    let same : c.args.self.now.held - 0 ≡ c.args.self.now.held = omega arith in
-    let size : length (take c.args.self.now.held c.args.self.now.pending) ≡ c.args.self.now.held = length-take-le c.args.self.now.held c.args.self.now.pending (omega (arith, c.args.self.now.room)) in
+    let some : 1 ≤ length c.args.self.now.pending.items = search rules in
     appended c.put.result (vec_items c.args.out.now) (refusal_bytes c.in-Err.fault) (vec_items c.put.new.out)
-    (c.put.ensures.items ∙ ap (λ (a : Answer). cond (is_ok c.put.result) (vec_items c.args.out.now ++ answer_bytes a) (vec_items c.args.out.now)) c.refusal.ensures)
+    (c.put.ensures.items ∙ ap (λ (a : Answer). cond (is_ok c.put.result) (vec_items c.args.out.now ++ answer_bytes a) (vec_items c.args.out.now)) c.from.ensures)
     (λ e heard drained old.
     subst (λ (x : List ℕ). Ended heard x) (append_assoc drained (vec_items c.args.out.now) (refusal_bytes c.in-Err.fault) ∙ ap (λ (x : List ℕ). drained ++ x) (sym e))
-    (ended_cut heard (drained ++ vec_items c.args.out.now) c.args.self.now.phase (take c.args.self.now.held c.args.self.now.pending) old (omega (arith, size, c.if-held-eq0.false)) c.lines_at-lines.result c.lines_at-lines.ensures c.in-Err.fault
-    (subst (λ (k : ℕ). Reads c.lines_at-lines.result (take k c.args.self.now.pending) (refused c.in-Err.fault)) same c.in-Err.ensures.rule)))
+    (ended_cut heard (drained ++ vec_items c.args.out.now) c.args.self.now.phase c.args.self.now.pending.items old some c.lines_at.result c.lines_at.ensures c.in-Err.fault
+    (subst (λ (x : List ℕ). Reads c.lines_at.result x (refused c.in-Err.fault)) c.as_slice.ensures.value c.in-Err.ensures.rule)))
