@@ -4,7 +4,8 @@
 use card::Card;
 use card::fault::Fault;
 use card::plan::Plan;
-use kinds::built::{Built, build};
+use kinds::built::Built;
+use kinds::plain::CardName;
 use std::io;
 use std::io::Read;
 use std::time::Instant;
@@ -64,7 +65,11 @@ fn main(rt: HostRuntime) -> io::Result<()> {
     if bytes.len() < 2 {
         return Ok(());
     }
-    match build(bytes[0], bytes[1]) {
+    let name = CardName {
+        kind: bytes[0],
+        lines: bytes[1],
+    };
+    match name.build() {
         Ok(card) => timed(&rt, &card, &bytes[2..]),
         Err(_) => println!(rt; "no such card"),
     }

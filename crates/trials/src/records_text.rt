@@ -1,102 +1,80 @@
 // Cases of records: whole streams, and single calls of the reader and the writer.
-use crate::text::{at, hex_after, hex_bytes, hex_list, list, part, refused};
+use crate::hex::{After, Hex, bytes};
+use cases::line::{Case, at};
+use cases::orders::Word;
+use cases::show::{Answer, List, Refusal};
 use conversation::hearing::converse;
 use records::order::Order;
 use records::reader::read;
 use records::writer::write;
 use std::alloc::Global;
-use std::io;
+use std::{fmt, io};
 
 // A whole stream of records, and all that is said to it.
-pub(crate) fn stream_case(rt: &impl Print, heap: Global, text: &str) -> io::Result<()> {
-    let input = hex_bytes(heap, text)?;
+pub(crate) fn stream_case(rt: &impl Print, heap: Global, case: &Case<'_>) -> io::Result<()> {
+    let input = bytes(heap, case.text())?;
     let said = converse(heap, input.as_slice())?;
-    hex_list(rt, said.as_slice())
+    rt.print(Hex(said.as_slice()))
 }
 
-// Prints an order: its word, and its numbers.
-fn order_text(rt: &impl Print, order: &Order<'_>) -> io::Result<()> {
-    match order {
-        Order::Commission { kind, lines } => print!(rt; "commission {kind} {lines}"),
-        Order::Plan(body) => {
-            print!(rt; "plan ")?;
-            list(rt, body)
-        }
-        Order::Patch { input, output } => print!(rt; "patch {input} {output}"),
-        Order::Drop { input } => print!(rt; "drop {input}"),
-        Order::Hold { cell, position } => print!(rt; "hold {cell} {position}"),
-        Order::Release { cell } => print!(rt; "release {cell}"),
-        Order::RingOut => print!(rt; "ring"),
-        Order::Voice(body) => {
-            print!(rt; "voice ")?;
-            list(rt, body)
+// An order as text: its word, and its numbers.
+#[derive(Drop)]
+struct Text<'a>(Order<'a>);
+
+impl fmt::Display for Text<'_> {
+    fn fmt<W: fmt::Write>(&self, f: &mut fmt::Formatter<W>) -> fmt::Result {
+        match &self.0 {
+            Order::Commission { kind, lines } => write!(f, "commission {kind} {lines}"),
+            Order::Plan(body) => write!(f, "plan {}", List(body)),
+            Order::Patch { input, output } => write!(f, "patch {input} {output}"),
+            Order::Drop { input } => write!(f, "drop {input}"),
+            Order::Hold { cell, position } => write!(f, "hold {cell} {position}"),
+            Order::Release { cell } => write!(f, "release {cell}"),
+            Order::RingOut => f.write_str("ring"),
+            Order::Voice(body) => write!(f, "voice {}", List(body)),
         }
     }
 }
 
 // Reads one record at so many lines: the order, and the bytes after it.
-pub(crate) fn read_case(rt: &impl Print, heap: Global, lines: u8, text: &str) -> io::Result<()> {
-    let bytes = hex_bytes(heap, text)?;
-    match read(lines, bytes.as_slice()) {
-        Ok(got) => match got {
-            Some((order, rest)) => {
-                order_text(rt, &order)?;
-                hex_after(rt, rest)
-            }
-            None => print!(rt; "end"),
-        },
-        Err(fault) => refused(rt, &fault),
+pub(crate) fn read_case(rt: &impl Print, heap: Global, case: &Case<'_>) -> io::Result<()> {
+    let input = bytes(heap, case.words(1))?;
+    match read(case.number(0, 0), input.as_slice()) {
+        Ok(Some((order, rest))) => { print!(rt; "{}{}", Text(order), After(rest)) }
+        Ok(None) => print!(rt; "end"),
+        Err(fault) => rt.print(Refusal(fault)),
     }
 }
 
-// The order of a word and its numbers.
+// The order of a text and its numbers.
 fn order<'a>(text: &str, n: &'a [u8]) -> Order<'a> {
-    if text.starts_with("commission") {
-        Order::Commission {
+    match Word::of(text) {
+        Word::Commission => Order::Commission {
             kind: at(n, 0),
             lines: at(n, 1),
-        }
-    } else if text.starts_with("plan") {
-        Order::Plan(n)
-    } else if text.starts_with("patch") {
-        Order::Patch {
+        },
+        Word::Plan => Order::Plan(n),
+        Word::Patch => Order::Patch {
             input: at(n, 0),
             output: at(n, 1),
-        }
-    } else if text.starts_with("drop") {
-        Order::Drop { input: at(n, 0) }
-    } else if text.starts_with("hold") {
-        Order::Hold {
+        },
+        Word::Drop => Order::Drop { input: at(n, 0) },
+        Word::Hold => Order::Hold {
             cell: at(n, 0),
             position: at(n, 1),
-        }
-    } else if text.starts_with("release") {
-        Order::Release { cell: at(n, 0) }
-    } else if text.starts_with("voice") {
-        Order::Voice(n)
-    } else {
-        Order::RingOut
+        },
+        Word::Release => Order::Release { cell: at(n, 0) },
+        Word::Voice => Order::Voice(n),
+        Word::Ring => Order::RingOut,
     }
 }
 
-// Writes one record at so many lines: the length or the refusal, and the buffer after.
-fn written(rt: &impl Print, lines: u8, order: Order<'_>, buffer: &mut [u8]) -> io::Result<()> {
-    match write(lines, &order, buffer) {
-        Ok(length) => print!(rt; "{length}")?,
-        Err(fault) => refused(rt, &fault)?,
-    }
-    hex_after(rt, buffer)
-}
-
-// Writes a record into a buffer of so many bytes, all 9 before.
-pub(crate) fn write_case(
-    rt: &impl Print,
-    lines: u8,
-    text: &str,
-    cases: &[Vec<u8>],
-) -> io::Result<()> {
-    let size = at(part(cases, 2), 0) as usize;
+// Writes a record at so many lines into a buffer of so many bytes, all 9 before: the length or the refusal, and the buffer after.
+pub(crate) fn write_case(rt: &impl Print, case: &Case<'_>) -> io::Result<()> {
+    let size = case.number(2, 0) as usize;
     let mut table = [9u8; 255];
-    let word = text.split('/').nth(1).unwrap_or("").trim_start();
-    written(rt, lines, order(word, part(cases, 1)), &mut table[0..size])
+    let buffer = &mut table[..size];
+    let order = order(case.words(1), case.part(1));
+    let length = write(case.number(0, 0), &order, buffer);
+    print!(rt; "{}{}", Answer(length), After(buffer))
 }
