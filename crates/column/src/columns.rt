@@ -5,8 +5,7 @@ ghost use Rattle.column.specs.Passing.{column_card};
 ghost use Rattle.column.specs.Soundness.{lines_sound};
 
 use super::leaders::Leaders;
-use super::position::turn;
-use super::settling::settle_all;
+use super::settling::Columns;
 use card::Card;
 use card::fault::{Cause, Fault, Layer};
 use card::plan::Plan;
@@ -77,7 +76,11 @@ impl<F: Leaders> Card for ColumnCard<F> {
         for column in 1..passed + 1 {
             // An index loop: columns count from 1 and cells from the last, so that the number is wanted for both.
             let cell = self.cells() - column;
-            line = turn(&self.family, setting[cell as usize], column, line);
+            let columns = Columns {
+                family: &self.family,
+                last: column,
+            };
+            line = columns.turn(setting[cell as usize], line);
         }
         Ok(line)
     }
@@ -87,7 +90,11 @@ impl<F: Leaders> Card for ColumnCard<F> {
         let cells = self.cells();
         let mut scratch = [0; 8];
         let room = &mut scratch[0..cells as usize];
-        if settle_all(&self.family, cells, plan.outputs(), holds, room, setting) {
+        let columns = Columns {
+            family: &self.family,
+            last: cells,
+        };
+        if columns.settle(plan.outputs(), holds, room, setting) {
             Ok(())
         } else {
             Err(Fault {

@@ -4,7 +4,6 @@
 pub mod columns;
 pub mod families;
 pub mod leaders;
-mod position;
 mod settling;
 
 #[cfg(test)]

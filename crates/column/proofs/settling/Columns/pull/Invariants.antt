@@ -2,7 +2,7 @@
 use Rattle.std.proofs.Common.{◌≡◌, ℕ, ◌<◌, ◌≤◌, List, length, get_or}
 use Rattle.card.specs.Settling.{none}
 use Rattle.column.specs.Serving.{Back}
-use Rattle.column.proofs.settling.pull.Given as goal
+use Rattle.column.proofs.settling.Columns.pull.Given as goal
 
 -- the inputs read so far are pulled back, and the others stand idle
 pub record Pulling (lead : ℕ → ℕ → ℕ → ℕ) (position column i : ℕ) (outputs rest : List ℕ) : Type 0 where
@@ -11,4 +11,4 @@ pub record Pulling (lead : ℕ → ℕ → ℕ → ℕ) (position column i : ℕ
   pub idle : (d : ℕ) → i ≤ d → d < 16 → get_or rest d 0 ≡ none
 
 abbrev pub invariant-loop-i : goal.invariant-loop-i
-invariant-loop-i g l = Pulling g.F.Leaders.lead l.position l.column l.i l.fn.outputs l.rest
+invariant-loop-i g l = Pulling g.F.Leaders.lead l.position l.self.last l.i l.fn.outputs l.rest
