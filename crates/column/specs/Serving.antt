@@ -1,5 +1,9 @@
 -- How a setting of columns 1 to j rests on one of columns 1 to j - 1.
-use Rattle.std.specs.Prelude.{◌≡◌, ℕ, ◌<◌, Bool, true, false, List, ◌∷◌, length, ◌≢◌, slice_index, slice_index_or}
+use Rattle.std.specs.Prelude.{◌≡◌, ℕ, ◌<◌, Bool, true, false, Ok, Err, Result, List, ◌∷◌, length, ◌≢◌, slice_index, slice_index_or}
+use Rattle.card.specs.declared.fault.Cause.TheVariants.{NoSetting}
+use Rattle.card.specs.declared.fault.Layer.TheVariants.{Card}
+use Rattle.card.specs.declared.fault.Fault.{Fault}
+use Rattle.card.specs.Faults.{fault}
 use Rattle.card.specs.Settling.{none, Fits, First, Unfit}
 use Rattle.column.specs.Passing.{turned, column_card}
 
@@ -35,7 +39,7 @@ abbrev pub Sought : (ℕ → ℕ → ℕ → ℕ) → ℕ → List ℕ → List 
 Sought lead j pairs holds after true = First (column_card lead j) pairs holds after
 Sought lead j pairs holds after false = Unfit (column_card lead j) pairs holds
 
--- the same, where the buffer has the first setting, or else stays as it was
-abbrev pub Written : (ℕ → ℕ → ℕ → ℕ) → ℕ → List ℕ → List ℕ → List ℕ → List ℕ → Bool → Type 0
-Written lead j pairs holds before after true = First (column_card lead j) pairs holds after
-Written lead j pairs holds before after false = Unfit (column_card lead j) pairs holds × (after ≡ before)
+-- what settling all columns answers: the buffer has the first setting, or else stays as it was
+abbrev pub Written : (ℕ → ℕ → ℕ → ℕ) → ℕ → List ℕ → List ℕ → List ℕ → List ℕ → Result (Unit {0}) Fault → Type 0
+Written lead j pairs holds before after (Ok x) = First (column_card lead j) pairs holds after
+Written lead j pairs holds before after (Err e) = Unfit (column_card lead j) pairs holds × (after ≡ before) × (e ≡ fault NoSetting Card 0)

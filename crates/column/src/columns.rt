@@ -94,14 +94,6 @@ impl<F: Leaders> Card for ColumnCard<F> {
             family: &self.family,
             last: cells,
         };
-        if columns.settle(plan.outputs(), holds, room, setting) {
-            Ok(())
-        } else {
-            Err(Fault {
-                cause: Cause::NoSetting,
-                layer: Layer::Card,
-                place: 0,
-            })
-        }
+        columns.settle(plan.outputs(), holds, room, setting)
     }
 }

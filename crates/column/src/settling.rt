@@ -5,6 +5,7 @@ ghost use Rattle.column.specs.Serving.{Pulled, Blocked, Served, Unserved, Sought
 
 use super::leaders::Leaders;
 use card::NONE;
+use card::fault::{Cause, Fault, Layer};
 
 // Columns 1 to the last of a family; none of them is left where the last is 0.
 #[derive(Drop)]
@@ -62,7 +63,8 @@ impl<F: Leaders> Columns<'_, F> {
         self.pull(position, outputs)
     }
 
-    // Settles the columns, whose cells are the last of the list. A position is taken back when what follows fails.
+    // Settles the columns, whose cells are the last of the list. A position is taken back when what follows fails. A yes or
+    // no and no option: what is found stands in the list.
     fn seek(&self, outputs: [u8; 16], holds: &[u8], setting: &mut [u8]) -> bool
         requires { (self.now.last ≤ length setting.old) × (length holds.now ≡ length setting.old) }
         ensures { Sought F.Leaders.lead self.now.last outputs (drop (length holds.now - self.now.last) holds.now) (drop (length setting.new - self.now.last) setting.new) result }
@@ -95,15 +97,19 @@ impl<F: Leaders> Columns<'_, F> {
         holds: &[u8],
         scratch: &mut [u8],
         setting: &mut [u8],
-    ) -> bool
+    ) -> Result<(), Fault>
         requires { (length holds.now ≡ self.now.last) × ((length scratch.old ≡ self.now.last) × (length setting.old ≡ self.now.last)) }
         ensures { Written F.Leaders.lead self.now.last outputs holds.now setting.old setting.new result }
     {
         if self.seek(outputs, holds, scratch) {
             setting.copy_from_slice(scratch);
-            true
+            Ok(())
         } else {
-            false
+            Err(Fault {
+                cause: Cause::NoSetting,
+                layer: Layer::Card,
+                place: 0,
+            })
         }
     }
 }
