@@ -1,4 +1,10 @@
 // The calls on a card that is named by its kind and line count.
+ghost use Rattle.std.specs.Prelude.{◌≡◌, OnErr};
+ghost use Rattle.card.specs.Placing.{Placed};
+ghost use Rattle.card.specs.Settling.{Counted};
+ghost use Rattle.kinds.specs.Building.{Built as IsBuilt};
+ghost use Rattle.cases.specs.Calls.{OnCard, SettledPairs, CarriedCount};
+
 use cabinet::Cabinet;
 use card::Card;
 use card::fault::Fault;
@@ -14,12 +20,17 @@ pub struct CardName {
 
 impl CardName {
     // The card.
-    pub fn build(self) -> Result<Built, Fault> {
+    pub fn build(self) -> Result<Built, Fault>
+        ensures { IsBuilt self.kind self.lines result }
+    {
         build(self.kind, self.lines)
     }
 
     // Settles a plan of any length under holds.
-    pub fn settle(self, pairs: &[u8], holds: &[u8], setting: &mut [u8]) -> Result<(), Fault> {
+    pub fn settle(self, pairs: &[u8], holds: &[u8], setting: &mut [u8]) -> Result<(), Fault>
+        ensures answer { OnCard self.kind self.lines (λ m. SettledPairs m pairs.now holds.now setting.old setting.new) result }
+        ensures refused { OnErr result (setting.new ≡ setting.old) }
+    {
         let card = self.build()?;
         let mut plan = Plan::idle(2)?;
         plan.fill(pairs)?;
@@ -27,17 +38,23 @@ impl CardName {
     }
 
     // The place of an input after so many columns.
-    pub fn place(self, setting: &[u8], input: u8, passed: u8) -> Result<u8, Fault> {
+    pub fn place(self, setting: &[u8], input: u8, passed: u8) -> Result<u8, Fault>
+        ensures { OnCard self.kind self.lines (λ m. Placed m setting.now input passed) result }
+    {
         self.build()?.place(setting, input, passed)
     }
 
     // How many positions a cell has.
-    pub fn positions(self, cell: u8) -> Result<u8, Fault> {
+    pub fn positions(self, cell: u8) -> Result<u8, Fault>
+        ensures { OnCard self.kind self.lines (λ m. Counted m cell) result }
+    {
         self.build()?.positions(cell)
     }
 
     // How many outputs a fresh cabinet fills from so many line numbers.
-    pub fn carry(self, given: u8, out: u8) -> Result<u8, Fault> {
+    pub fn carry(self, given: u8, out: u8) -> Result<u8, Fault>
+        ensures { OnCard self.kind self.lines (CarriedCount given out) result }
+    {
         let cabinet = Cabinet::commission(self.build()?);
         let numbers = [7u8; 255];
         let mut table = [9u8; 255];
