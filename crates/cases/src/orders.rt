@@ -1,5 +1,7 @@
 // Orders to a cabinet as text, and what each is replied.
+ghost use Rattle.std.specs.Prelude.{Some};
 ghost use Rattle.cases.specs.Names.{Named, word_name};
+ghost use Rattle.cases.specs.Shown.{reply_text};
 
 use super::line::{Case, at};
 use super::naming::{Name, named};
@@ -81,6 +83,8 @@ struct Said {
 }
 
 impl fmt::Display for Said {
+    ghost output = { λ s. Some (reply_text s.lines s.reply) };
+
     fn fmt<W: fmt::Write>(&self, f: &mut fmt::Formatter<W>) -> fmt::Result {
         match &self.reply {
             Reply::Moved(moved) => write!(f, "moved {moved}"),
