@@ -10,12 +10,24 @@ use std::io;
 use std::io::Read;
 use std::time::Instant;
 
-// The number of four bytes, the highest first.
-fn number(bytes: &[u8]) -> u32 {
-    match bytes {
-        [a, b, c, d] => u32::from_be_bytes([*a, *b, *c, *d]),
-        _ => 0,
-    }
+// What a card is to settle, and how often.
+#[derive(Clone, Copy, Drop)]
+struct Task<'a> {
+    pairs: &'a [u8],
+    holds: &'a [u8],
+    rounds: u32,
+}
+
+// The task of these bytes for a card of so many lines and cells: a plan, a hold list and four bytes of rounds, the highest first.
+fn read(bytes: &[u8], lines: usize, cells: usize) -> Option<Task<'_>> {
+    let (pairs, rest) = bytes.split_at_checked(lines)?;
+    let (holds, count) = rest.split_at_checked(cells)?;
+    let rounds = u32::from_be_bytes(count.try_into().ok()?);
+    Some(Task {
+        pairs,
+        holds,
+        rounds,
+    })
 }
 
 // A plan of these pairs.
@@ -38,39 +50,34 @@ fn settle_often(card: &Built, plan: &Plan, holds: &[u8], setting: &mut [u8], rou
 
 // Times the rounds on a card.
 fn timed(rt: &HostRuntime, card: &Built, bytes: &[u8]) -> io::Result<()> {
-    let lines = card.lines() as usize;
     let cells = (card.cells() as usize).min(64);
-    if bytes.len() != lines + cells + 4 {
+    let Some(task) = read(bytes, card.lines() as usize, cells) else {
         return println!(rt; "a plan, a hold list and four bytes of rounds are wanted");
-    }
-    let (pairs, rest) = bytes.split_at(lines);
-    let (holds, count) = rest.split_at(cells);
-    let rounds = number(count);
-    match planned(pairs) {
-        Ok(plan) => {
-            let mut table = [0u8; 64];
-            let start = Instant::now(rt)?;
-            let done = settle_often(card, &plan, holds, &mut table[0..cells], rounds);
-            let took = start.elapsed(rt)?.as_nanos();
-            println!(rt; "{took} {done}")
-        }
-        Err(_) => println!(rt; "no such plan"),
-    }
+    };
+    let Ok(plan) = planned(task.pairs) else {
+        return println!(rt; "no such plan");
+    };
+    let mut table = [0u8; 64];
+    let start = Instant::now(rt)?;
+    let done = settle_often(card, &plan, task.holds, &mut table[..cells], task.rounds);
+    let took = start.elapsed(rt)?.as_nanos();
+    println!(rt; "{took} {done}")
 }
 
 fn main(rt: HostRuntime) -> io::Result<()> {
     let mut input = Vec::new(rt.alloc());
     rt.stdin().read_to_end(&mut input)?;
-    let bytes = input.as_slice();
-    if bytes.len() < 2 {
-        return Ok(());
-    }
-    let name = CardName {
-        kind: bytes[0],
-        lines: bytes[1],
-    };
-    match name.build() {
-        Ok(card) => timed(&rt, &card, &bytes[2..]),
-        Err(_) => println!(rt; "no such card"),
+    match input.as_slice() {
+        [kind, lines, bytes @ ..] => {
+            let name = CardName {
+                kind: *kind,
+                lines: *lines,
+            };
+            match name.build() {
+                Ok(card) => timed(&rt, &card, bytes),
+                Err(_) => println!(rt; "no such card"),
+            }
+        }
+        _ => Ok(()),
     }
 }

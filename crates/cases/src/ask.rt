@@ -1,7 +1,9 @@
 // What a case asks for, and its answer.
+ghost use Rattle.cases.specs.Names.{Named, ask_name};
+
 use super::calls;
 use super::line::Case;
-use super::naming::named;
+use super::naming::{Name, named};
 use super::orders::obey;
 use super::show::{Answer, List};
 use std::alloc::Global;
@@ -17,18 +19,33 @@ pub enum Ask {
     Orders,
 }
 
-const ASKS: [(&str, Ask); 5] = [
-    ("settle", Ask::Settle),
-    ("place", Ask::Place),
-    ("positions", Ask::Positions),
-    ("carry", Ask::Carry),
-    ("orders", Ask::Orders),
-];
+impl Name for Ask {
+    ghost name_of = { ask_name };
+
+    fn name(&self) -> &'static str {
+        match self {
+            Ask::Settle => "settle",
+            Ask::Place => "place",
+            Ask::Positions => "positions",
+            Ask::Carry => "carry",
+            Ask::Orders => "orders",
+        }
+    }
+}
 
 impl Ask {
     // What a line asks for.
-    pub fn of(line: &str) -> Option<Ask> {
-        named(&ASKS, line)
+    pub fn of(line: &str) -> Option<Ask>
+        ensures { Named ask_name line.now result }
+    {
+        let all = [
+            Ask::Settle,
+            Ask::Place,
+            Ask::Positions,
+            Ask::Carry,
+            Ask::Orders,
+        ];
+        named(&all, line)
     }
 
     // Prints the answer.

@@ -1,6 +1,10 @@
 // Orders to a cabinet as text, and what each is replied.
+ghost use Rattle.std.specs.Prelude.{Some};
+ghost use Rattle.cases.specs.Names.{Named, word_name};
+ghost use Rattle.cases.specs.Shown.{reply_text};
+
 use super::line::{Case, at};
-use super::naming::named;
+use super::naming::{Name, named};
 use super::show::{Answer, List, Refusal};
 use cabinet::command::{Command, Reply};
 use cabinet::serving::serve;
@@ -17,41 +21,57 @@ pub enum Word {
     Hold,
     Release,
     Voice,
-    Ring,
 }
 
-const WORDS: [(&str, Word); 7] = [
-    ("commission", Word::Commission),
-    ("plan", Word::Plan),
-    ("patch", Word::Patch),
-    ("drop", Word::Drop),
-    ("hold", Word::Hold),
-    ("release", Word::Release),
-    ("voice", Word::Voice),
-];
+impl Name for Word {
+    ghost name_of = { word_name };
 
-impl Word {
-    // The word that a text begins with; any other text rings out.
-    pub fn of(text: &str) -> Word {
-        named(&WORDS, text).unwrap_or(Word::Ring)
+    fn name(&self) -> &'static str {
+        match self {
+            Word::Commission => "commission",
+            Word::Plan => "plan",
+            Word::Patch => "patch",
+            Word::Drop => "drop",
+            Word::Hold => "hold",
+            Word::Release => "release",
+            Word::Voice => "voice",
+        }
     }
 }
 
-// The command of a text and its numbers.
+impl Word {
+    // The word that a text begins with.
+    pub fn of(text: &str) -> Option<Word>
+        ensures { Named word_name text.now result }
+    {
+        let all = [
+            Word::Commission,
+            Word::Plan,
+            Word::Patch,
+            Word::Drop,
+            Word::Hold,
+            Word::Release,
+            Word::Voice,
+        ];
+        named(&all, text)
+    }
+}
+
+// The command of a text and its numbers; any text but the words of orders rings out.
 fn command<'a>(text: &str, n: &'a [u8]) -> Command<'a> {
     match Word::of(text) {
-        Word::Plan => Command::Plan(n),
-        Word::Patch => Command::Patch {
+        Some(Word::Plan) => Command::Plan(n),
+        Some(Word::Patch) => Command::Patch {
             input: at(n, 0),
             output: at(n, 1),
         },
-        Word::Drop => Command::Drop { input: at(n, 0) },
-        Word::Hold => Command::Hold {
+        Some(Word::Drop) => Command::Drop { input: at(n, 0) },
+        Some(Word::Hold) => Command::Hold {
             cell: at(n, 0),
             position: at(n, 1),
         },
-        Word::Release => Command::Release { cell: at(n, 0) },
-        Word::Commission | Word::Voice | Word::Ring => Command::RingOut,
+        Some(Word::Release) => Command::Release { cell: at(n, 0) },
+        Some(Word::Commission | Word::Voice) | None => Command::RingOut,
     }
 }
 
@@ -63,6 +83,8 @@ struct Said {
 }
 
 impl fmt::Display for Said {
+    ghost output = { λ s. Some (reply_text s.lines s.reply) };
+
     fn fmt<W: fmt::Write>(&self, f: &mut fmt::Formatter<W>) -> fmt::Result {
         match &self.reply {
             Reply::Moved(moved) => write!(f, "moved {moved}"),
@@ -84,7 +106,7 @@ pub fn obey(rt: &impl Print, heap: Global, case: &Case<'_>) -> io::Result<()> {
         Err(fault) => return rt.print(Refusal(fault)),
     };
     let mut commands = Vec::new(heap);
-    for (i, words) in case.text().split('/').enumerate().skip(1) {
+    for (i, words) in case.text.split('/').enumerate().skip(1) {
         commands.push(command(words.trim_start(), case.part(i)))?;
     }
     let replies = serve(heap, card, commands.as_slice())?;

@@ -1,4 +1,7 @@
 // Answers as text.
+ghost use Rattle.std.specs.Prelude.{Some};
+ghost use Rattle.cases.specs.Shown.{list_text, refusal_text, answer_text};
+
 use card::fault::Fault;
 use std::fmt;
 
@@ -7,12 +10,14 @@ use std::fmt;
 pub struct List<'a>(pub &'a [u8]);
 
 impl fmt::Display for List<'_> {
+    ghost output = { λ l. Some (list_text l.0.now) };
+
     fn fmt<W: fmt::Write>(&self, f: &mut fmt::Formatter<W>) -> fmt::Result {
-        for (i, n) in self.0.iter().enumerate() {
-            if i > 0 {
-                f.write_str(" ")?;
+        if let Some((first, rest)) = self.0.split_first() {
+            write!(f, "{first}")?;
+            for n in rest {
+                write!(f, " {n}")?;
             }
-            write!(f, "{n}")?;
         }
         Ok(())
     }
@@ -23,6 +28,8 @@ impl fmt::Display for List<'_> {
 pub struct Refusal(pub Fault);
 
 impl fmt::Display for Refusal {
+    ghost output = { λ r. Some (refusal_text r.0) };
+
     fn fmt<W: fmt::Write>(&self, f: &mut fmt::Formatter<W>) -> fmt::Result {
         let number = self.0.number();
         let layer = self.0.layer_number();
@@ -36,6 +43,8 @@ impl fmt::Display for Refusal {
 pub struct Answer<T>(pub Result<T, Fault>);
 
 impl<T: fmt::Display> fmt::Display for Answer<T> {
+    ghost output = { λ a. answer_text T.output a.0 };
+
     fn fmt<W: fmt::Write>(&self, f: &mut fmt::Formatter<W>) -> fmt::Result {
         match &self.0 {
             Ok(answer) => write!(f, "{answer}"),

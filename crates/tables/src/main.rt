@@ -11,7 +11,7 @@ fn main(rt: HostRuntime) -> io::Result<()> {
     for line in BufReader::new(heap, rt.stdin())?.lines(heap) {
         let line = line?;
         let case = Case::read(heap, line.as_str())?;
-        if let Some(ask) = Ask::of(case.text()) {
+        if let Some(ask) = Ask::of(case.text) {
             ask.answer(&rt, heap, &case)?;
         }
         println!(rt; "")?;

@@ -36,11 +36,11 @@ pub(crate) struct Hex<'a>(pub(crate) &'a [u8]);
 
 impl fmt::Display for Hex<'_> {
     fn fmt<W: fmt::Write>(&self, f: &mut fmt::Formatter<W>) -> fmt::Result {
-        for (i, b) in self.0.iter().enumerate() {
-            if i > 0 {
-                f.write_str(" ")?;
+        if let Some((first, rest)) = self.0.split_first() {
+            write!(f, "{first:02X}")?;
+            for b in rest {
+                write!(f, " {b:02X}")?;
             }
-            write!(f, "{b:02X}")?;
         }
         Ok(())
     }

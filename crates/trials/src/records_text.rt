@@ -12,7 +12,7 @@ use std::{fmt, io};
 
 // A whole stream of records, and all that is said to it.
 pub(crate) fn stream_case(rt: &impl Print, heap: Global, case: &Case<'_>) -> io::Result<()> {
-    let input = bytes(heap, case.text())?;
+    let input = bytes(heap, case.text)?;
     let said = converse(heap, input.as_slice())?;
     rt.print(Hex(said.as_slice()))
 }
@@ -36,9 +36,14 @@ impl fmt::Display for Text<'_> {
     }
 }
 
+// The second part of a case as text, without the blanks before it.
+fn words<'a>(case: &Case<'a>) -> &'a str {
+    case.text.split('/').nth(1).unwrap_or("").trim_start()
+}
+
 // Reads one record at so many lines: the order, and the bytes after it.
 pub(crate) fn read_case(rt: &impl Print, heap: Global, case: &Case<'_>) -> io::Result<()> {
-    let input = bytes(heap, case.words(1))?;
+    let input = bytes(heap, words(case))?;
     match read(case.number(0, 0), input.as_slice()) {
         Ok(Some((order, rest))) => { print!(rt; "{}{}", Text(order), After(rest)) }
         Ok(None) => print!(rt; "end"),
@@ -49,23 +54,23 @@ pub(crate) fn read_case(rt: &impl Print, heap: Global, case: &Case<'_>) -> io::R
 // The order of a text and its numbers.
 fn order<'a>(text: &str, n: &'a [u8]) -> Order<'a> {
     match Word::of(text) {
-        Word::Commission => Order::Commission {
+        Some(Word::Commission) => Order::Commission {
             kind: at(n, 0),
             lines: at(n, 1),
         },
-        Word::Plan => Order::Plan(n),
-        Word::Patch => Order::Patch {
+        Some(Word::Plan) => Order::Plan(n),
+        Some(Word::Patch) => Order::Patch {
             input: at(n, 0),
             output: at(n, 1),
         },
-        Word::Drop => Order::Drop { input: at(n, 0) },
-        Word::Hold => Order::Hold {
+        Some(Word::Drop) => Order::Drop { input: at(n, 0) },
+        Some(Word::Hold) => Order::Hold {
             cell: at(n, 0),
             position: at(n, 1),
         },
-        Word::Release => Order::Release { cell: at(n, 0) },
-        Word::Voice => Order::Voice(n),
-        Word::Ring => Order::RingOut,
+        Some(Word::Release) => Order::Release { cell: at(n, 0) },
+        Some(Word::Voice) => Order::Voice(n),
+        None => Order::RingOut,
     }
 }
 
@@ -74,7 +79,7 @@ pub(crate) fn write_case(rt: &impl Print, case: &Case<'_>) -> io::Result<()> {
     let size = case.number(2, 0) as usize;
     let mut table = [9u8; 255];
     let buffer = &mut table[..size];
-    let order = order(case.words(1), case.part(1));
+    let order = order(words(case), case.part(1));
     let length = write(case.number(0, 0), &order, buffer);
     print!(rt; "{}{}", Answer(length), After(buffer))
 }
