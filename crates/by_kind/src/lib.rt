@@ -30,12 +30,7 @@ fn planned(lines: u8, pairs: &[u8]) -> Result<Plan, Fault>
 }
 
 // Checks a sheet for pairs and holds.
-pub fn check(
-    name: CardName,
-    pairs: &[u8],
-    holds: &[u8],
-    sheet: &[u8],
-) -> Result<Verdict, Fault>
+pub fn check(name: CardName, pairs: &[u8], holds: &[u8], sheet: &[u8]) -> Result<Verdict, Fault>
     ensures { Sole (SheetAnswer name.kind name.lines pairs.now holds.now sheet.now) result }
 {
     let card = name.build()?;
@@ -55,12 +50,7 @@ pub fn place(name: CardName, setting: &[u8], input: u8, passed: u8) -> Result<u8
 }
 
 // Fills the buffer with the first setting that fits pairs and holds.
-pub fn settle(
-    name: CardName,
-    pairs: &[u8],
-    holds: &[u8],
-    setting: &mut [u8],
-) -> Result<(), Fault>
+pub fn settle(name: CardName, pairs: &[u8], holds: &[u8], setting: &mut [u8]) -> Result<(), Fault>
     ensures { Sole (SettleAnswer name.kind name.lines pairs.now holds.now setting.old) (result, setting.new) }
 {
     let card = name.build()?;

@@ -12,10 +12,7 @@ use payload::Payload;
 fn sent<P: Payload + Copy>(given: &[P], input: u8) -> P
     ensures { result ≡ slice_index_or given.now input P.Payload.silent }
 {
-    given
-        .get(input as usize)
-        .copied()
-        .unwrap_or(P::silence())
+    given.get(input as usize).copied().unwrap_or(P::silence())
 }
 
 impl<C: Card> Cabinet<C> {

@@ -58,7 +58,11 @@ impl Ask {
                 rt.print(Answer(place))
             }
             Ask::Positions => rt.print(Answer(calls::positions(name, case.number(1, 0)))),
-            Ask::Carry => rt.print(Answer(calls::carry(name, case.number(1, 0), case.number(1, 1)))),
+            Ask::Carry => rt.print(Answer(calls::carry(
+                name,
+                case.number(1, 0),
+                case.number(1, 1),
+            ))),
             Ask::Orders => obey(rt, heap, case),
         }
     }

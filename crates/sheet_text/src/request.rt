@@ -26,7 +26,10 @@ impl Request {
         ensures { Sole (SheetAnswer self.now.kind self.now.lines self.now.plan.items self.now.holds.items self.now.sheet.items) result }
     {
         by_kind::check(
-            CardName { kind: self.kind, lines: self.lines },
+            CardName {
+                kind: self.kind,
+                lines: self.lines,
+            },
             self.plan.as_slice(),
             self.holds.as_slice(),
             self.sheet.as_slice(),

@@ -49,8 +49,7 @@ invariant_of-self c =
     }
 
 pub returns : goal.returns
-returns c =
-    (
-      record { sized = record { some = c.if-lines-lt2.false; few = c.if-lines-gt16.false }; fine = λ k h. c.loop-i.invariant k (omega arith) },
-      laid_front c.args.pairs.now _ _ c.copy_from_slice.ensures.after,
-    )
+returns c = (
+  record { sized = record { some = c.if-lines-lt2.false; few = c.if-lines-gt16.false }; fine = λ k h. c.loop-i.invariant k (omega arith) },
+  laid_front c.args.pairs.now _ _ c.copy_from_slice.ensures.after,
+)
