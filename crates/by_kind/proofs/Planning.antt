@@ -1,8 +1,8 @@
 -- With as many pairs as lines, a plan's own rules are those of a plan for the lines.
 use Rattle.std.proofs.Common.{◌≡◌, ℕ, ◌<◌, List, length, subst, arith}
 use Rattle.card.specs.declared.fault.Fault.{Fault}
-use Rattle.card.specs.Plans.{Lines, Plannable, Unplannable, Fine}
-use Rattle.by_kind.specs.Planning.{PlanFine, PlanBroken}
+use Rattle.card.specs.Plans.{Lines, Unplannable, Fine}
+use Rattle.by_kind.specs.Planning.{PlanBroken}
 
 module _ (n : ℕ) (count : Lines n) (ps : List ℕ) (size : length ps ≡ n) where
   lines : Lines (length ps)
@@ -12,6 +12,3 @@ module _ (n : ℕ) (count : Lines n) (ps : List ℕ) (size : length ps ≡ n) wh
   plan_wrong e (Unplannable.wrong_length ne) = absurd (ne lines)
   plan_wrong e (Unplannable.no_output s i h before busy high) = Unplannable.no_output size i (omega arith) (subst (λ (x : ℕ). (j : ℕ) → j < i → Fine x ps j) size before) busy (omega arith)
   plan_wrong e (Unplannable.used_output s i h before busy low t) = Unplannable.used_output size i (omega arith) (subst (λ (x : ℕ). (j : ℕ) → j < i → Fine x ps j) size before) busy (omega arith) t
-
-  pub plan_right : Plannable (Lines (length ps)) (length ps) ps → PlanFine n ps
-  plan_right p = record { sized = size; fine = subst (λ (x : ℕ). (i : ℕ) → i < x → Fine x ps i) size p.fine }

@@ -1,5 +1,5 @@
 -- From what a card settles in the part of a buffer that it has cells for, to what then stands in the cabinet.
-use Rattle.std.proofs.Common.{get_or, add-one, eq-eqb, ne_eqb, ◌≡◌, ℕ, ◌+◌, ◌≤◌, List, ◌++◌, length, take, Err, refl, ◌∙◌, subst, arith}
+use Rattle.std.proofs.Common.{◌≡◌, ℕ, ◌≤◌, List, ◌++◌, length, take, Err, refl, ◌∙◌, subst, arith}
 use Rattle.std.proofs.lemmas.List.{take_at, length-take-le}
 use Rattle.card.specs.declared.fault.Fault.{Fault}
 use Rattle.card.specs.Meaning.{Meaning}
@@ -8,12 +8,6 @@ use Rattle.card.specs.Settling.{First, Settleable, Refusal}
 use Rattle.cabinet.specs.declared.State.{State}
 use Rattle.cabinet.specs.Logs.{moved}
 use Rattle.cabinet.specs.States.{standing, Settles, Settling}
-
-pub moved_same : (n : ℕ) (a b : List ℕ) → get_or a n 0 ≡ get_or b n 0 → moved (n + 1) a b ≡ moved n a b
-moved_same n a b e = rw (add-one, eq-eqb (get_or a n 0) (get_or b n 0) e) (omega arith)
-
-pub moved_more : (n : ℕ) (a b : List ℕ) → (get_or a n 0 ≡ get_or b n 0 → ⊥) → moved (n + 1) a b ≡ moved n a b + 1
-moved_more n a b e = rw (add-one, ne_eqb (get_or a n 0) (get_or b n 0) e) (omega arith)
 
 module _ (m : Meaning) (s : State) (k : ℕ) (size : k ≡ m.cells) (wide : length s.setting ≡ 64) (few : m.cells ≤ 64) where
   pub settle_refused : (e : Fault) → Refusal m (pairs_of s.plan) (take k s.holds) (take k s.setting) e → Settling m (standing m s) (Err e) (standing m s).setting

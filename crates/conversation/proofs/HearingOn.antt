@@ -170,9 +170,6 @@ module _ (heard said : List ℕ) (p : Phase) (back : List ℕ) (b : ℕ) (old : 
 
 -- the end of input
 module _ (heard said : List ℕ) (p : Phase) (back : List ℕ) (old : Listening heard said p back) where
-  pub ended_whole : back ≡ [] → Ended heard said
-  ended_whole e = record { stage = old.stage; conversed = subst (λ (x : List ℕ). Conversed x said old.stage) (sym (old.parts ∙ ap (λ (x : List ℕ). old.seen ++ x) e ∙ append-nil old.seen)) old.conversed }
-
   pub ended_cut : (1 ≤ length back) → (n : ℕ) → n ≡ phase_lines p → (e : Fault) → Reads n back (refused e) → Ended heard (said ++ refusal_bytes e)
   ended_cut some n lines e r = go old.stage old.conversed old.stands old.waits (lines ∙ same_lines p old.stage old.stands)
     where

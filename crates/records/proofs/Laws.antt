@@ -1,5 +1,5 @@
 -- Laws of the format.
-use Rattle.std.proofs.Common.{◌≡◌, ℕ, ◌+◌, ◌*◌, ◌<◌, ◌≤◌, cond, eqb, ◌⊎◌, List, [], ◌∷◌, length, get_or, take, sym, refl, ap, ◌∙◌, inl, inr, ⊎_elim, arith, length-append}
+use Rattle.std.proofs.Common.{◌≡◌, ℕ, ◌+◌, ◌*◌, ◌<◌, ◌≤◌, cond, eqb, ◌⊎◌, List, [], ◌∷◌, length, get_or, sym, refl, ap, ◌∙◌, inl, inr, ⊎_elim, arith, length-append}
 use Rattle.std.proofs.lemmas.Bool.{cases_eq}
 use Rattle.records.specs.declared.order.Mark.{Mark}
 use Rattle.records.specs.declared.order.Mark.TheVariants.{Cm, Pl, Pt, Dr, Ho, Re, Ro, Vf}
@@ -53,18 +53,7 @@ of_body_both (release cell) = refl
 of_body_both ring_out = refl
 of_body_both (voice body) = refl
 
--- a body is shortest at no lines
-pub least_size : (n : ℕ) (m : Mark) → (table m).size 0 ≤ (table m).size n
-least_size n Cm = omega arith
-least_size n Pl = omega arith
-least_size n Pt = omega arith
-least_size n Dr = omega arith
-least_size n Ho = omega arith
-least_size n Re = omega arith
-least_size n Ro = omega arith
-least_size n Vf = omega arith
-
--- and has at most 176 bytes
+-- a body has at most 176 bytes
 pub most_size : (n : ℕ) (m : Mark) → n ≤ 16 → (table m).size n ≤ 176
 most_size n Cm h = omega arith
 most_size n Pl h = omega arith
@@ -87,11 +76,6 @@ length_letters Vf = refl
 
 pub length_record : (i : Image) → length (record_of i) ≡ length (body_of i) + 2
 length_record i = omega (arith, length-append (table (mark_of i)).letters (body_of i), length_letters (mark_of i))
-
-pub first_two : (bs : List ℕ) → 2 ≤ length bs → take 2 bs ≡ get_or bs 0 0 ∷ get_or bs 1 0 ∷ []
-first_two [] h = absurd (omega arith)
-first_two (x ∷ []) h = absurd (omega arith)
-first_two (x ∷ y ∷ bs) h = refl
 
 pub lines_else : (n : ℕ) → (n ≡ 1 → ⊥) → n ≤ 16 → Lines n
 lines_else n h k = ⊎_elim (λ e. inl e) (λ d. let two : 2 ≤ n = omega arith in inr (two, k)) (cases_eq n 0)
