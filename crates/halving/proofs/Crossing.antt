@@ -1,17 +1,14 @@
 -- A Beneš card carries a plan if and only if its outer columns agree with it and its halves carry their half plans.
 use Rattle.std.proofs.Common.{◌≡◌, ℕ, zero, suc, ◌+◌, ◌*◌, ◌/◌, ◌<◌, ◌≤◌, List, length, get_or, sym, refl, ◌∙◌, arith}
-use native.Mathlib.Decide.{dec_lt}
-use Rattle.std.proofs.lemmas.List.{get_or_default}
 use Rattle.card.specs.Meaning.{Lawful}
 use Rattle.card.specs.Settling.{none, Fits, Carries}
 use Rattle.halving.specs.Halving.{lines_at, cells_at, columns_at, half, side, leave, place, benes}
-use Rattle.halving.specs.Outer.{value, entrant, Halves, Halved, Bits, Held, Alike, Pairable, Holding, Front, last_cell, last_position}
-use Rattle.halving.specs.Column.{Open, Obeys, Starting}
+use Rattle.halving.specs.Outer.{value, entrant, Halves, Halved, Pairable, Front, wanted_cell, wanted_position}
 use Rattle.halving.specs.Counts.{half_lawful, side_below}
 use Rattle.halving.specs.Steps.{place_out}
 use Rattle.halving.proofs.Orders.{value_same}
 use Rattle.halving.specs.Soundness.{within}
-use Rattle.halving.proofs.Parts.{entrant_line, entrant_below, entrant_side, entrant_of, busy_below, part_fits, whole_fits}
+use Rattle.halving.proofs.Parts.{entrant_line, entrant_below, entrant_side, entrant_of, busy_below, halved_same, part_fits, whole_fits}
 
 -- a busy pair's half line
 half_line : (o : ℕ) → (o ≡ none → ⊥) → o < 255 → o / 2 ≡ none → ⊥
@@ -27,8 +24,8 @@ halves_carry k pairs l a b p w h c q f =
     let g : leave k l b (place 2 k (half 2 k b l) c (columns_at 2 k)) ≡ o = rw (entrant_side l b c p, entrant_line l b c) at e in
     omega (arith, (h c q).busy busy)
 
-abbrev pub Agrees : ℕ → List ℕ → List ℕ → Type 0
-Agrees h pairs l = (j : ℕ) → j < 2 * h → (get_or pairs j none ≡ none → ⊥) → get_or l (last_cell h pairs j) 0 ≡ last_position pairs l j
+abbrev Agrees : ℕ → List ℕ → List ℕ → Type 0
+Agrees h pairs l = (j : ℕ) → j < 2 * h → (get_or pairs j none ≡ none → ⊥) → get_or l (h + wanted_cell 2 pairs j) 0 ≡ wanted_position 2 h pairs l j
 
 columns_agree : (k : ℕ) (pairs l : List ℕ) → Lawful (benes (suc k)) l → Carries (benes (suc k)) pairs l → Agrees (lines_at k) pairs l
 columns_agree k pairs l lw w i p busy =
@@ -40,7 +37,7 @@ columns_agree k pairs l lw w i p busy =
     let bit : get_or l (lines_at k + x) 0 < 2 = lw.below (lines_at k + x) (omega arith) in
     rw f (omega arith)
 
-whole_carries : (k : ℕ) (pairs l a₀ a₁ : List ℕ) → Pairable (lines_at (suc k)) pairs → lines_at (suc k) ≤ 16 → Agrees (lines_at k) pairs l
+whole_carries : (k : ℕ) (pairs l a₀ a₁ : List ℕ) → Pairable (lines_at (suc k)) pairs → lines_at (suc k) ≤ 32 → Agrees (lines_at k) pairs l
     → Halved 2 (lines_at k) (lines_at k) pairs l 0 a₀ → Halved 2 (lines_at k) (lines_at k) pairs l 1 a₁
     → Carries (benes k) a₀ (half 2 k 0 l) → Carries (benes k) a₁ (half 2 k 1 l) → Carries (benes (suc k)) pairs l
 whole_carries k pairs l a₀ a₁ pp few ag h₀ h₁ w₀ w₁ i p busy = place_out k l i ∙ go (side l i) (side_below l i) refl
@@ -60,7 +57,7 @@ whole_carries k pairs l a₀ a₁ pp few ag h₀ h₁ w₀ w₁ i p busy = place
     go (suc (suc b)) q e = absurd (omega arith)
 
 -- the outer columns of a setting that fits, and its halves
-pub fits_front : (k : ℕ) (pairs holds l : List ℕ) → Fits (benes (suc k)) pairs holds l → Front (lines_at k) (value (lines_at k) l) pairs holds l
+pub fits_front : (k : ℕ) (pairs holds l : List ℕ) → Fits (benes (suc k)) pairs holds l → Front 2 (lines_at k) (value (lines_at k) l) pairs holds l
 fits_front k pairs holds l f =
     record {
       number = refl;
@@ -69,69 +66,13 @@ fits_front k pairs holds l f =
       agrees = columns_agree k pairs l f.lawful f.carries;
     }
 
-pub fits_half : (k : ℕ) (pairs holds l a : List ℕ) (b : ℕ) → b < 2 → Fits (benes (suc k)) pairs holds l → Halved 2 (lines_at k) (lines_at k) pairs l b a → Fits (benes k) a (half 2 k b holds) (half 2 k b l)
-fits_half k pairs holds l a b p f h = part_fits 2 k pairs holds l a b p f (halves_carry k pairs l a b p f.carries h)
+pub fits_half : (k n : ℕ) (pairs holds s l a : List ℕ) (b : ℕ) → b < 2 → Pairable (lines_at (suc k)) pairs → Front 2 (lines_at k) n pairs holds s → Fits (benes (suc k)) pairs holds l → value (lines_at k) l ≡ n → Halved 2 (lines_at k) (lines_at k) pairs s b a → Fits (benes k) a (half 2 k b holds) (half 2 k b l)
+fits_half k n pairs holds s l a b p pp front f e h =
+    let same = value_same (lines_at k) s l (λ c q. front.bits c (omega arith)) (λ c q. f.lawful.below c (omega arith)) (front.number ∙ sym e) in
+    part_fits 2 k pairs holds l a b p f (halves_carry k pairs l a b p f.carries (halved_same 2 (lines_at k) pairs s l a b same h))
 
-pub fits_whole : (k n : ℕ) (pairs holds l a₀ a₁ : List ℕ) → Pairable (lines_at (suc k)) pairs → lines_at (suc k) ≤ 16 → length l ≡ cells_at 2 (suc k) → Front (lines_at k) n pairs holds l
+pub fits_whole : (k n : ℕ) (pairs holds l a₀ a₁ : List ℕ) → Pairable (lines_at (suc k)) pairs → lines_at (suc k) ≤ 32 → length l ≡ cells_at 2 (suc k) → Front 2 (lines_at k) n pairs holds l
     → Halved 2 (lines_at k) (lines_at k) pairs l 0 a₀ → Halved 2 (lines_at k) (lines_at k) pairs l 1 a₁
     → Fits (benes k) a₀ (half 2 k 0 holds) (half 2 k 0 l) → Fits (benes k) a₁ (half 2 k 1 holds) (half 2 k 1 l) → Fits (benes (suc k)) pairs holds l
 fits_whole k n pairs holds l a₀ a₁ pp few size front h₀ h₁ f₀ f₁ =
     whole_fits 2 k pairs holds l a₀ a₁ size front.bits front.held (whole_carries k pairs l a₀ a₁ pp few front.agrees h₀ h₁ f₀.carries f₁.carries) f₀ f₁
-
-value_alike : (h : ℕ) (l t : List ℕ) → Alike h l t → value h l ≡ value h t
-value_alike zero l t s = refl
-value_alike (suc h) l t s = omega (arith, value_alike h l t (λ c p. s c (omega arith)), s h (omega arith))
-
--- the outer columns go by their own cells alone
-pub front_same : (h n : ℕ) (pairs holds l t : List ℕ) → Pairable (2 * h) pairs → Alike (2 * h) l t → Front h n pairs holds l → Front h n pairs holds t
-front_same h n pairs holds l t pp s f =
-    record {
-      number = sym (value_alike h l t (λ c p. s c (omega arith))) ∙ f.number;
-      bits = λ c p. rw (← s c p) (f.bits c p);
-      held = λ c p q. sym (s c p) ∙ f.held c p q;
-      agrees = λ i p busy.
-          let lt = busy_below (2 * h) pairs i pp p busy in
-          let e = s (last_cell h pairs i) (omega arith) in
-          let g = s (i / 2) (omega arith) in
-          let z = f.agrees i p busy in
-          omega arith;
-    }
-
--- the last column as the code starts it: with the holds, after first column n of r
-module _ (h n : ℕ) (pairs holds r s : List ℕ) (number : value h r ≡ n) (first : Bits h r) (sized : 2 * h ≤ length holds) (start : Starting h (2 * h) holds r s) where
-  at_start : (c : ℕ) → h ≤ c → c < 2 * h → get_or s c 0 ≡ get_or holds c none
-  at_start c u p = start.inside c u p ∙ get_or_default holds c 0 none (omega arith)
-
-  pub start_open : Holding (2 * h) holds → Open h (2 * h) s
-  start_open hold c u p = rw (at_start c u p) (hold c p)
-
-  -- outer columns with first column n obey
-  pub front_obeys : (t : List ℕ) → Front h n pairs holds t → Obeys h (2 * h) (2 * h) (last_cell h pairs) (last_position pairs s) pairs s t
-  front_obeys t f =
-      let same : Alike h r t = value_same h r t first (λ c p. f.bits c (omega arith)) (number ∙ sym f.number) in
-      record {
-        bits = λ c u p. f.bits c p;
-        kept = λ c u p busy. f.held c p (λ z. busy (at_start c u p ∙ z)) ∙ sym (at_start c u p);
-        wanted = λ j p busy.
-            let d = start.below (j / 2) (omega arith) in
-            let e = same (j / 2) (omega arith) in
-            let z = f.agrees j p busy in
-            omega arith;
-      }
-
-  -- and what obeys serves
-  pub obeys_front : (t : List ℕ) → Held h holds r → Alike h s t → Obeys h (2 * h) (2 * h) (last_cell h pairs) (last_position pairs s) pairs s t → Front h n pairs holds t
-  obeys_front t held same w =
-      let first_same : Alike h r t = λ c p. sym (start.below c p) ∙ same c p in
-      record {
-        number = sym (value_alike h r t first_same) ∙ number;
-        bits = λ c p. elim (dec_lt c h) [ yes q ↦ rw (← first_same c q) (first c q) | no q ↦ w.bits c (omega arith) p ];
-        held = λ c p busy. elim (dec_lt c h) [
-          | yes q ↦ sym (first_same c q) ∙ held c q busy
-          | no q ↦ (let u : h ≤ c = omega arith in w.kept c u p (λ z. busy (sym (at_start c u p) ∙ z)) ∙ at_start c u p)
-        ];
-        agrees = λ j p busy.
-            let e = same (j / 2) (omega arith) in
-            let z = w.wanted j p busy in
-            omega arith;
-      }

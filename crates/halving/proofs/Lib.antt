@@ -1,12 +1,13 @@
 -- Lemmas on halving cards.
-mod Levels
+mod Sizes
 mod Sheets
 mod Single
-mod Orders
 mod Forces
-mod Parts
-mod Crossing
 mod Numbers
-mod Search
-mod Tabled
+mod Orders
+mod Parts
+mod Routing
+mod Trying
+mod Crossing
 mod Choosing
+mod Search

@@ -1,7 +1,7 @@
 -- The first column as the code writes it from its number, from its last cell up.
 use Rattle.std.proofs.Common.{◌≡◌, ℕ, zero, suc, ◌-◌, ◌/◌, ◌%◌, ◌^◌, ◌<◌, ◌≤◌, List, length, get_or, set, refl, ap, ◌∙◌, arith, get_or-set_other, get_or-set_same}
 use native.Mathlib.Decide.{ℕ_discrete}
-use Rattle.halving.specs.Outer.{value}
+use Rattle.halving.specs.Outer.{value, Alike}
 
 -- the cells from c on are written, and what is left of the number is that of the cells before
 pub record Writing (h n c rest : ℕ) (l : List ℕ) : Type 0 where
@@ -25,3 +25,7 @@ writing_more h n zero rest l z p size w = absurd (omega arith)
 writing_more h n (suc c) rest l z p size w =
     let e : suc c - 1 ≡ c = omega arith in
     rw e (writing_suc h n c rest l (omega arith) size w)
+
+pub value_alike : (h : ℕ) (l t : List ℕ) → Alike h l t → value h l ≡ value h t
+value_alike zero l t s = refl
+value_alike (suc h) l t s = omega (arith, value_alike h l t (λ c p. s c (omega arith)), s h (omega arith))

@@ -2,7 +2,7 @@
 use Rattle.std.proofs.Common.{◌≡◌, ℕ, zero, suc, ◌+◌, ◌-◌, ◌^◌, ◌<◌, ◌≤◌, ◌⊎◌, List, length, get_or, take, drop, sym, ap, ◌∙◌, inl, inr, arith, length-drop, length-take, get_or-drop, get_or-take}
 use native.Mathlib.Decide.{dec_lt}
 use Rattle.card.specs.Settling.{Before}
-use Rattle.halving.specs.Outer.{value, Bits}
+use Rattle.halving.specs.Outer.{value, Bits, Alike}
 
 pub value_below : (h : ℕ) (l : List ℕ) → Bits h l → value h l < 2 ^ h
 value_below zero l b = omega arith
@@ -39,20 +39,20 @@ value_less (suc h) l t bl bt e =
       | no q ↦ record { at = h; inside = omega arith; same = value_same h l t bl' bt' (omega arith); less = omega arith }
     ]
 
--- cells from o on that are nowhere greater are the same, or less at the first that differs
-pub least_differ : (o n : ℕ) (l t : List ℕ) → ((c : ℕ) → c < o → get_or l c 0 ≡ get_or t c 0) → ((d : ℕ) → d < n → get_or l (o + d) 0 ≤ get_or t (o + d) 0) → ((c : ℕ) → c < o + n → get_or l c 0 ≡ get_or t c 0) ⊎ Differ (o + n) l t
-least_differ o zero l t s h = inl (λ c p. s c (omega arith))
-least_differ o (suc n) l t s h = go (least_differ o n l t s (λ d p. h d (omega arith)))
+-- columns that are nowhere greater are the same, or less at the first cell that differs
+pub least_differ : (n : ℕ) (l t : List ℕ) → ((c : ℕ) → c < n → get_or l c 0 ≤ get_or t c 0) → Alike n l t ⊎ Differ n l t
+least_differ zero l t h = inl (λ c p. absurd (omega arith))
+least_differ (suc n) l t h = go (least_differ n l t (λ c p. h c (omega arith)))
   where
-    go : ((c : ℕ) → c < o + n → get_or l c 0 ≡ get_or t c 0) ⊎ Differ (o + n) l t → ((c : ℕ) → c < o + suc n → get_or l c 0 ≡ get_or t c 0) ⊎ Differ (o + suc n) l t
+    go : Alike n l t ⊎ Differ n l t → Alike (suc n) l t ⊎ Differ (suc n) l t
     go (inr d) = inr (record { at = d.at; inside = omega (arith, d.inside); same = d.same; less = d.less })
     go (inl e) =
         let le = h n (omega arith) in
-        elim (dec_lt (get_or l (o + n) 0) (get_or t (o + n) 0)) [
-          | yes q ↦ inr (record { at = o + n; inside = omega arith; same = e; less = q })
+        elim (dec_lt (get_or l n 0) (get_or t n 0)) [
+          | yes q ↦ inr (record { at = n; inside = omega arith; same = e; less = q })
           | no q ↦
-              let g : get_or l (o + n) 0 ≡ get_or t (o + n) 0 = omega arith in
-              inl (λ c p. elim (dec_lt c (o + n)) [ yes r ↦ e c r | no r ↦ let f : c ≡ o + n = omega arith in rw f g ])
+              let g : get_or l n 0 ≡ get_or t n 0 = omega arith in
+              inl (λ c p. elim (dec_lt c n) [ yes r ↦ e c r | no r ↦ let f : c ≡ n = omega arith in rw f g ])
         ]
 
 pub before_differ : (n : ℕ) (l t : List ℕ) → n ≤ length l → Differ n l t → Before l t

@@ -2,7 +2,7 @@
 use Rattle.std.specs.Prelude.{◌≡◌, ℕ, zero, suc, ◌+◌, ◌*◌, ◌<◌, ◌≤◌, ◌⊎◌, List, length, slice_index_or, refl}
 use Rattle.std.proofs.Common.{inl, inr, arith, length-take, length-drop, get_or-drop, get_or-take}
 use Rattle.card.specs.Meaning.{Lawful}
-use Rattle.halving.specs.Halving.{lines_at, cells_at, columns_at, half, side, halving}
+use Rattle.halving.specs.Halving.{lines_at, cells_at, columns_at, half, side, halving, OneOrTwo}
 
 pub lines_some : (k : ℕ) → 2 ≤ lines_at k
 lines_some zero = omega arith
@@ -29,6 +29,14 @@ cells_few w (suc zero) n h = omega arith
 cells_few w (suc (suc zero)) n h = omega arith
 cells_few w (suc (suc (suc zero))) n h = omega arith
 cells_few w (suc (suc (suc (suc k)))) n h = omega arith
+
+pub outer_some : {w : ℕ} → OneOrTwo w → 1 ≤ w
+outer_some (inl e) = omega arith
+outer_some (inr e) = omega arith
+
+pub outer_few : {w : ℕ} → OneOrTwo w → w ≤ 2
+outer_few (inl e) = omega arith
+outer_few (inr e) = omega arith
 
 pub columns_few : (w k : ℕ) → w ≤ 2 → k < 4 → columns_at w k ≤ 7
 columns_few w zero n h = omega arith

@@ -51,11 +51,6 @@ abbrev pub Sought : Meaning → List ℕ → List ℕ → List ℕ → Bool → 
 Sought m pairs holds after true = First m pairs holds after
 Sought m pairs holds after false = Unfit m pairs holds
 
--- the same, where the buffer has the first setting, or else stays as it was
-abbrev pub Written : Meaning → List ℕ → List ℕ → List ℕ → List ℕ → Bool → Type 0
-Written m pairs holds before after true = First m pairs holds after
-Written m pairs holds before after false = Unfit m pairs holds × (after ≡ before)
-
 -- whether a lone cell at p fits
 abbrev pub Fitting : ℕ → ℕ → List ℕ → List ℕ → Bool → Type 0
 Fitting w p pairs holds true = Fits (halving w 0) pairs holds (p ∷ [])
@@ -65,49 +60,50 @@ abbrev pub Keeping : ℕ → List ℕ → List ℕ → Bool → Type 0
 Keeping h holds l true = Held h holds l
 Keeping h holds l false = Held h holds l → ⊥
 
--- a Beneš card's last column: input j wants its output's cell to take it there from the half that it enters under the first column of l
-abbrev pub last_cell : ℕ → List ℕ → ℕ → ℕ
-last_cell h pairs j = h + slice_index_or pairs j none / 2
+-- whether a cell may stand at p, or an input end there: q is what is wanted, if anything is
+abbrev pub Allowed : ℕ → ℕ → Bool → Type 0
+Allowed q p true = (q ≢ none) → p ≡ q
+Allowed q p false = ((q ≢ none) → p ≡ q) → ⊥
 
-abbrev pub last_position : List ℕ → List ℕ → ℕ → ℕ
-last_position pairs l j = (slice_index_or pairs j none % 2 + side l j) % 2
+-- the pairs force the last of w outer columns; its cells come after those of the column before it, if there is one
+abbrev pub before : ℕ → ℕ → ℕ
+before w h = cond (w == 2) h 0
 
--- a baseline card's first column: input j wants its own cell to take it to its output's half
-abbrev pub first_cell : ℕ → ℕ
-first_cell j = j / 2
+-- the position that takes input j to output o in a Beneš card's last column, from the half that it enters under the first column of l
+abbrev pub last_position : List ℕ → ℕ → ℕ → ℕ
+last_position l j o = (o % 2 + side l j) % 2
 
-abbrev pub first_position : ℕ → List ℕ → ℕ → ℕ
-first_position h pairs j = (slice_index_or pairs j none / h + j % 2) % 2
+-- the position that takes input j to the half of output o in a baseline card's first column
+abbrev pub first_position : ℕ → ℕ → ℕ → ℕ
+first_position h j o = (o / h + j % 2) % 2
 
--- the outer columns of a Beneš card serve the plan and keep the holds, and the first is column n
-pub record Front (h n : ℕ) (pairs holds l : List ℕ) : Type 0 where
-  pub number : value h l ≡ n
-  pub bits : Bits (2 * h) l
-  pub held : Held (2 * h) holds l
-  pub agrees : (j : ℕ) → j < 2 * h → (slice_index_or pairs j none ≢ none) → slice_index l (last_cell h pairs j) ≡ last_position pairs l j
+-- the cell of the forced column that input j passes on its way to output o, and the position that it wants there: in the last column the output's cell, in the first its own
+abbrev pub out_cell : ℕ → ℕ → ℕ → ℕ
+out_cell w j o = cond (w == 2) (o / 2) (j / 2)
 
--- and no others that serve with that first column have a smaller position in the last
-pub record Foremost (h n : ℕ) (pairs holds l : List ℕ) : Type 0 where
-  pub front : Front h n pairs holds l
-  pub least : (t : List ℕ) → Front h n pairs holds t → (c : ℕ) → h ≤ c → c < 2 * h → slice_index l c ≤ slice_index t c
+abbrev pub out_position : ℕ → ℕ → List ℕ → ℕ → ℕ → ℕ
+out_position w h l j o = cond (w == 2) (last_position l j o) (first_position h j o)
 
--- what a try of first column n answers
-abbrev pub Tried : ℕ → ℕ → List ℕ → List ℕ → List ℕ → Bool → Type 0
-Tried h n pairs holds l true = Foremost h n pairs holds l
-Tried h n pairs holds l false = (t : List ℕ) → Front h n pairs holds t → ⊥
+-- the same where the pairs give the output
+abbrev pub wanted_cell : ℕ → List ℕ → ℕ → ℕ
+wanted_cell w pairs j = out_cell w j (slice_index_or pairs j none)
 
--- the first column of a baseline card serves the plan and keeps the holds
-pub record Served (h : ℕ) (pairs holds l : List ℕ) : Type 0 where
-  pub bits : Bits h l
-  pub held : Held h holds l
-  pub agrees : (j : ℕ) → j < 2 * h → (slice_index_or pairs j none ≢ none) → slice_index l (first_cell j) ≡ first_position h pairs j
+abbrev pub wanted_position : ℕ → ℕ → List ℕ → List ℕ → ℕ → ℕ
+wanted_position w h pairs l j = out_position w h l j (slice_index_or pairs j none)
 
--- and no other that serves has a smaller position
-pub record Least (h : ℕ) (pairs holds l : List ℕ) : Type 0 where
-  pub served : Served h pairs holds l
-  pub least : (t : List ℕ) → Served h pairs holds t → (c : ℕ) → c < h → slice_index l c ≤ slice_index t c
+-- the outer columns serve the plan and keep the holds, and the cells before the forced column are number n
+pub record Front (w h n : ℕ) (pairs holds l : List ℕ) : Type 0 where
+  pub number : value (before w h) l ≡ n
+  pub bits : Bits (w * h) l
+  pub held : Held (w * h) holds l
+  pub agrees : (j : ℕ) → j < 2 * h → (slice_index_or pairs j none ≢ none) → slice_index l (before w h + wanted_cell w pairs j) ≡ wanted_position w h pairs l j
 
--- what a try of the first column answers
-abbrev pub Trying : ℕ → List ℕ → List ℕ → List ℕ → Bool → Type 0
-Trying h pairs holds l true = Least h pairs holds l
-Trying h pairs holds l false = (t : List ℕ) → Served h pairs holds t → ⊥
+-- and no others that serve with that number have a smaller position
+pub record Foremost (w h n : ℕ) (pairs holds l : List ℕ) : Type 0 where
+  pub front : Front w h n pairs holds l
+  pub least : (t : List ℕ) → Front w h n pairs holds t → (c : ℕ) → c < w * h → slice_index l c ≤ slice_index t c
+
+-- what a try of number n answers
+abbrev pub Tried : ℕ → ℕ → ℕ → List ℕ → List ℕ → List ℕ → Bool → Type 0
+Tried w h n pairs holds l true = Foremost w h n pairs holds l
+Tried w h n pairs holds l false = (t : List ℕ) → Front w h n pairs holds t → ⊥

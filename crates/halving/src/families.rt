@@ -1,9 +1,9 @@
 // The two families of halving cards.
 ghost use Rattle.std.proofs.Common.{inl, inr, refl};
 
+use super::levels::Level;
 use super::outer::OuterColumns;
-use super::settling::Settles;
-use super::{baseline_settling, benes_settling};
+use super::routes::Routes;
 
 // A card has a first and a last column.
 #[derive(Clone, Copy)]
@@ -37,26 +37,31 @@ impl OuterColumns for Baseline {
     ghost counted = { inl refl };
 }
 
-impl Settles for Benes {
-    fn settle_level(
-        &self,
-        level: usize,
-        pairs: &[u8; 16],
-        holds: &[u8],
-        setting: &mut [u8],
-    ) -> bool {
-        benes_settling::settle_level(level, pairs, holds, setting)
+impl Routes for Benes {
+    fn inner(&self, _half: Level, output: u8) -> u8 {
+        output / 2
+    }
+
+    fn cell(&self, _input: usize, output: u8) -> usize {
+        output as usize / 2
+    }
+
+    fn position(&self, _half: Level, first: &[u8], input: usize, output: u8) -> u8 {
+        let lower = (first[input / 2] as usize + input % 2) % 2;
+        ((output as usize % 2 + lower) % 2) as u8
     }
 }
 
-impl Settles for Baseline {
-    fn settle_level(
-        &self,
-        level: usize,
-        pairs: &[u8; 16],
-        holds: &[u8],
-        setting: &mut [u8],
-    ) -> bool {
-        baseline_settling::settle_level(level, pairs, holds, setting)
+impl Routes for Baseline {
+    fn inner(&self, half: Level, output: u8) -> u8 {
+        output % half.lines() as u8
+    }
+
+    fn cell(&self, input: usize, _output: u8) -> usize {
+        input / 2
+    }
+
+    fn position(&self, half: Level, _first: &[u8], input: usize, output: u8) -> u8 {
+        ((output as usize / half.lines() + input % 2) % 2) as u8
     }
 }

@@ -1,39 +1,68 @@
 // A column whose cells are put where pairs want them: first its holds, then the pairs, then 0 where a cell is still free.
-ghost use Rattle.std.specs.Prelude.{◌≡◌, ℕ, ◌<◌, ◌≤◌, length};
-ghost use Rattle.halving.specs.Column.{Put, Starting, Filling};
+ghost use Rattle.std.specs.Prelude.{◌≡◌, ◌*◌, ◌<◌, length};
+ghost use Rattle.halving.specs.Halving.{lines_at};
+ghost use Rattle.halving.specs.Column.{Open, Put, Filling, Forcing};
+ghost use Rattle.halving.specs.Outer.{before, wanted_cell, wanted_position, Pairable};
 
+use super::levels::Level;
+use super::routes::Routes;
 use card::NONE;
 
-// Writes the holds of the cells from `lo` up to `hi` into them; a cell that is not held is free.
-pub(super) fn start_column(lo: usize, hi: usize, holds: &[u8], setting: &mut [u8])
-    requires { (lo ≤ hi) × ((hi ≤ length holds.now) × (hi ≤ length setting.old)) }
-    ensures { Starting lo hi holds.now setting.old setting.new }
+// Writes the holds of the cells into them; a cell that is not held is free.
+pub(super) fn start(holds: &[u8], column: &mut [u8])
+    requires { length holds.now ≡ length column.old }
+    ensures { column.new ≡ holds.now }
 {
-    for c in lo..hi {
-        setting[c] = holds[c];
+    // A loop: tried with `copy_from_slice`, which calls the C library, and settling took longer than before.
+    for (c, cell) in column.iter_mut().enumerate() {
+        *cell = holds[c];
     }
 }
 
 // Puts a free cell to a position; false if it stands at another.
-pub(super) fn put(cell: usize, position: u8, setting: &mut [u8]) -> bool
-    requires { cell < length setting.old }
-    ensures { Put cell position setting.old setting.new result }
+fn put(cell: &mut u8, position: u8) -> bool
+    ensures { Put position cell.old cell.new result }
 {
-    if setting[cell] == NONE {
-        setting[cell] = position;
-        return true;
+    if *cell == NONE {
+        *cell = position;
     }
-    setting[cell] == position
+    *cell == position
 }
 
-// Puts every free cell from `lo` up to `hi` to 0.
-pub(super) fn fill_column(lo: usize, hi: usize, setting: &mut [u8])
-    requires { (lo ≤ hi) × (hi ≤ length setting.old) }
-    ensures { Filling lo hi setting.old setting.new }
+// Puts each cell of the last outer column where the inputs that pass it want it; false if it cannot. An idle input wants nothing.
+pub(super) fn force<F: Routes>(
+    family: &F,
+    half: Level,
+    pairs: &[u8],
+    first: &[u8],
+    column: &mut [u8],
+) -> bool
+    requires lines { length pairs.now ≡ 2 * lines_at half.depth }
+    requires before { length first.now ≡ before F.OUTER (lines_at half.depth) }
+    requires size { length column.old ≡ lines_at half.depth }
+    requires pairable { Pairable (2 * lines_at half.depth) pairs.now }
+    requires start { Open column.old }
+    ensures { Forcing (wanted_cell F.OUTER pairs.now) (wanted_position F.OUTER (lines_at half.depth) pairs.now first.now) pairs.now column.old column.new result }
 {
-    for c in lo..hi {
-        if setting[c] == NONE {
-            setting[c] = 0;
+    for (input, &output) in pairs.iter().enumerate() {
+        if output != NONE {
+            let cell = family.cell(input, output);
+            let position = family.position(half, first, input, output);
+            if !put(&mut column[cell], position) {
+                return false;
+            }
+        }
+    }
+    true
+}
+
+// Puts every free cell to 0.
+pub(super) fn fill(column: &mut [u8])
+    ensures { Filling column.old column.new }
+{
+    for cell in column {
+        if *cell == NONE {
+            *cell = 0;
         }
     }
 }

@@ -1,43 +1,35 @@
 // The plans of the two halves under a first column.
-ghost use Rattle.std.specs.Prelude.{◌≡◌, ℕ, ◌*◌, ◌<◌, ◌≤◌, length};
-ghost use Rattle.halving.specs.Outer.{inner, Halved, Pairable};
+ghost use Rattle.std.specs.Prelude.{◌≡◌, ◌*◌, ◌<◌, length};
+ghost use Rattle.halving.specs.Halving.{lines_at};
+ghost use Rattle.halving.specs.Outer.{Halved, Pairable};
 
+use super::levels::Level;
+use super::routes::Routes;
 use card::NONE;
 
-// The line of its half, with `h` lines, that an output leaves from.
-fn half_line(outer: usize, h: usize, output: u8) -> u8
-    requires { (0 < h) × (h ≤ 8) }
-    ensures { result ≡ inner outer h output }
-{
-    if outer == 2 {
-        output / 2
-    } else {
-        output % h as u8
-    }
-}
-
-// The plan of half `b`: 0 is the upper, 1 the lower. An idle line stays idle.
-pub(super) fn half_plan(
-    outer: usize,
-    h: usize,
+// Writes the plan of half `b` under a first column: 0 is the upper, 1 the lower, a number since it is added to positions. An idle line stays idle.
+pub(super) fn half_plan<F: Routes>(
+    family: &F,
+    half: Level,
     b: usize,
-    pairs: &[u8; 16],
-    setting: &[u8],
-) -> [u8; 16]
-    requires some { 0 < h }
-    requires few { h ≤ 8 }
-    requires size { h ≤ length setting.now }
+    pairs: &[u8],
+    first: &[u8],
+    plan: &mut [u8],
+)
+    requires lines { length pairs.now ≡ 2 * lines_at half.depth }
+    requires size { length first.now ≡ lines_at half.depth }
+    requires room { length plan.old ≡ lines_at half.depth }
     requires which { b < 2 }
-    requires pairable { Pairable (2 * h) pairs.now }
-    ensures halved { Halved outer h h pairs.now setting.now b result }
-    ensures pairable { Pairable h result }
+    requires pairable { Pairable (2 * lines_at half.depth) pairs.now }
+    ensures halved { Halved F.OUTER (lines_at half.depth) (lines_at half.depth) pairs.now first.now b plan.new }
+    ensures pairable { Pairable (lines_at half.depth) plan.new }
 {
-    let mut plan = [NONE; 16];
-    for c in 0..h {
-        let output = pairs[2 * c + (setting[c] as usize + b) % 2];
-        if output != NONE {
-            plan[c] = half_line(outer, h, output);
-        }
+    for (c, line) in plan.iter_mut().enumerate() {
+        let output = pairs[2 * c + (first[c] as usize + b) % 2];
+        *line = if output == NONE {
+            NONE
+        } else {
+            family.inner(half, output)
+        };
     }
-    plan
 }

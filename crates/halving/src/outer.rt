@@ -6,7 +6,7 @@ pub trait OuterColumns {
     // The kind number of the family's cards.
     const KIND: u8;
 
-    // How many outer columns a card has, above level 0.
+    // How many outer columns a card has above level 0.
     const OUTER: usize;
 
     ghost KIND: { ℕ };

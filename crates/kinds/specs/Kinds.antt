@@ -28,8 +28,8 @@ pub data Kind : ℕ → ℕ → Meaning → Type 0 where
 abbrev pub plain_meaning : Plain → Meaning
 plain_meaning (Klw c) = column_card klw (c.lines - 1)
 plain_meaning (Bbc c) = column_card bbc (c.lines - 1)
-plain_meaning (Benes c) = benes c.level
-plain_meaning (Baseline c) = baseline c.level
+plain_meaning (Benes c) = benes c.level.depth
+plain_meaning (Baseline c) = baseline c.level.depth
 
 abbrev pub built_meaning : Built → Meaning
 built_meaning (built.Plain c) = plain_meaning c

@@ -16,8 +16,8 @@ use Rattle.kinds.specs.Kinds.{PlainKind, Kind, plain_meaning, built_meaning}
 pub plain_sound : (c : Plain) → Sound (plain_meaning c)
 plain_sound (Klw c) = klw_sound c.lines c.sized.0 c.sized.1
 plain_sound (Bbc c) = bbc_sound c.lines c.sized.0 c.sized.1
-plain_sound (Benes c) = halving_sound 2 c.level (omega arith) c.small
-plain_sound (Baseline c) = halving_sound 1 c.level (omega arith) c.small
+plain_sound (Benes c) = halving_sound 2 c.level.depth (omega arith) c.level.small
+plain_sound (Baseline c) = halving_sound 1 c.level.depth (omega arith) c.level.small
 
 pub built_sound : (c : Built) → Sound (built_meaning c)
 built_sound (built.Plain c) = plain_sound c

@@ -1,34 +1,34 @@
 -- The cell fits, or its hold or one of the pairs rules the position out.
-use Rattle.std.proofs.Common.{◌≡◌, get_or, sym, ◌∙◌, arith}
-use Rattle.std.proofs.lemmas.List.{get_or_default}
-use Rattle.card.specs.Settling.{none}
-use Rattle.halving.proofs.Single.{lone_fits, lone_carries}
+use Rattle.std.proofs.Common.{◌≡◌, ◌-◌, slice_index, true, false, true≢false, sym, ◌∙◌, arith}
+use Rattle.halving.specs.Outer.{Allowed, Fitting}
+use Rattle.halving.proofs.Single.{lone_held, lone_ends, lone_allowed}
 use Rattle.halving.proofs.lone.cell_fits.Goals as goal
-use Rattle.halving.proofs.lone.cell_fits.Goals.{else-holds-via-then-holds+else-holds-position, else-holds-via-else-holds, else-pairs-ne-NONE-via-then-pairs-ne-NONE+else-pairs-position, else-pairs-ne-NONE-via-else-pairs-ne-NONE, else-pairs-ne-NONE-2-via-then-pairs-ne-NONE-2+else-pairs-position-2, else-pairs-ne-NONE-2-via-else-pairs-ne-NONE-2}
+use Rattle.halving.proofs.lone.cell_fits.Goals.{then-allows, else-allows}
 
-pub returns-then-holds-position : goal.returns-then-holds-position
-returns-then-holds-position c w f =
-    let e : get_or c.args.holds.now 0 0 ≡ get_or c.args.holds.now 0 none = get_or_default c.args.holds.now 0 0 none (omega arith) in
-    c.if-holds-position.true (e ∙ sym (f.keeps 0 (omega arith) (λ z. c.if-holds.true (e ∙ z))))
+pub returns-then-allows-2 : goal.returns-then-allows-2
+returns-then-allows-2 c v =
+    let p = c.args.position in
+    let pairs = c.args.pairs.now in
+    let holds = c.args.holds.now in
+    elim c.if-allows.branch [
+      | then-allows w ↦
+          let b : w.allows-then-allows.result ≡ true = sym w.value-is ∙ c.if-allows-2.true in
+          elim c.allows-then-allows-2.result as (λ r. Allowed (slice_index c.args.pairs.now 1) (1 - p) r → Fitting v p pairs holds r) [
+            | true ↦ λ d. lone_allowed v p pairs holds c.requires.position c.requires.lines c.requires.sized w.if-allows.ensures (rw b at w.allows-then-allows.ensures) d
+            | false ↦ λ d f. d (lone_ends v p pairs holds c.requires.position c.requires.lines c.requires.sized 1 (1 - p) (omega arith) (omega arith) f)
+          ] c.allows-then-allows-2.ensures
+      | else-allows w ↦ absurd (true≢false (sym c.if-allows-2.true ∙ w.value-is ∙ w.if-allows.false))
+    ]
 
-pub returns-then-pairs-position : goal.returns-then-pairs-position
-returns-then-pairs-position c w f =
-    let e : get_or c.args.pairs.now 0 0 ≡ get_or c.args.pairs.now 0 none = get_or_default c.args.pairs.now 0 0 none (omega arith) in
-    let g = lone_carries w c.args.position 0 c.args.pairs.now c.args.holds.now (omega arith) f (λ z. c.if-pairs-ne-NONE.true (e ∙ z)) in
-    c.if-pairs-position.true (omega arith)
-
-pub returns-then-pairs-position-2 : goal.returns-then-pairs-position-2
-returns-then-pairs-position-2 c w f =
-    let e : get_or c.args.pairs.now 1 0 ≡ get_or c.args.pairs.now 1 none = get_or_default c.args.pairs.now 1 0 none (omega arith) in
-    let g = lone_carries w c.args.position 1 c.args.pairs.now c.args.holds.now (omega arith) f (λ z. c.if-pairs-ne-NONE-2.true (e ∙ z)) in
-    c.if-pairs-position-2.true (omega arith)
-
-pub returns : goal.returns
-returns c w =
-    let h : get_or c.args.holds.now 0 0 ≡ get_or c.args.holds.now 0 none = get_or_default c.args.holds.now 0 0 none (omega arith) in
-    let a : get_or c.args.pairs.now 0 0 ≡ get_or c.args.pairs.now 0 none = get_or_default c.args.pairs.now 0 0 none (omega arith) in
-    let b : get_or c.args.pairs.now 1 0 ≡ get_or c.args.pairs.now 1 none = get_or_default c.args.pairs.now 1 0 none (omega arith) in
-    lone_fits w c.args.position c.args.pairs.now c.args.holds.now c.requires.0
-    (λ k. elim c.else-holds.branch [ else-holds-via-then-holds+else-holds-position u ↦ sym u.if-holds-position.false ∙ h | else-holds-via-else-holds u ↦ absurd (k (sym h ∙ u.if-holds.false)) ])
-    (λ k. elim c.else-pairs-ne-NONE.branch [ else-pairs-ne-NONE-via-then-pairs-ne-NONE+else-pairs-position u ↦ sym u.if-pairs-position.false ∙ a | else-pairs-ne-NONE-via-else-pairs-ne-NONE u ↦ absurd (k (sym a ∙ u.if-pairs-ne-NONE.false)) ])
-    (λ k. elim c.else-pairs-ne-NONE-2.branch [ else-pairs-ne-NONE-2-via-then-pairs-ne-NONE-2+else-pairs-position-2 u ↦ sym u.if-pairs-position-2.false ∙ b | else-pairs-ne-NONE-2-via-else-pairs-ne-NONE-2 u ↦ absurd (k (sym b ∙ u.if-pairs-ne-NONE-2.false)) ])
+pub returns-else-allows-2 : goal.returns-else-allows-2
+returns-else-allows-2 c v =
+    let p = c.args.position in
+    let pairs = c.args.pairs.now in
+    let holds = c.args.holds.now in
+    rw c.if-allows-2.false
+    (λ f. elim c.if-allows.branch [
+      | then-allows w ↦
+          let b : w.allows-then-allows.result ≡ false = sym w.value-is ∙ c.if-allows-2.false in
+          (rw b at w.allows-then-allows.ensures) (lone_ends v p pairs holds c.requires.position c.requires.lines c.requires.sized 0 p (omega arith) (omega arith) f)
+      | else-allows w ↦ w.if-allows.ensures (lone_held v p pairs holds c.requires.position c.requires.lines c.requires.sized f)
+    ])

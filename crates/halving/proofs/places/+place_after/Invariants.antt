@@ -2,4 +2,4 @@
 use Rattle.halving.proofs.places.+place_after.Given as goal
 
 abbrev pub decreases-place_after : goal.decreases-place_after
-decreases-place_after l = l.level
+decreases-place_after g l = l.level.depth

@@ -1,43 +1,52 @@
 -- What the checks and the search found, as settling answers it.
-use Rattle.std.proofs.Common.{refl, inl, inr, arith, length-take}
+use Rattle.std.proofs.Common.{◌≡◌, ℕ, List, length, get_or, refl, sym, ◌∙◌, inl, inr, arith, length-take}
 use Rattle.std.proofs.lemmas.Result.{err_from_is_err_and}
-use Rattle.card.specs.Settling.{Refusal}
-use Rattle.halving.specs.Halving.{lines_at, halving}
-use Rattle.halving.specs.Counts.{cells_few}
-use Rattle.halving.proofs.Tabled.{first_in_table, unfit_in_table, lines_are, table_pairable}
+use native.Mathlib.Decide.{ℕ_discrete}
+use Rattle.card.specs.Settling.{none, Refusal}
+use Rattle.card.specs.Plans.{PlanLaw, paired}
+use Rattle.card.proofs.Pairing.{law_few, law_room, law_below, law_size}
+use Rattle.halving.specs.Halving.{lines_at}
+use Rattle.halving.specs.Outer.{Pairable}
+use Rattle.halving.specs.Counts.{cells_few, outer_few}
 use Rattle.halving.proofs.cards.HalvingCardCard.settle.Goals as goal
+
+-- a plan's busy pairs end at its lines
+plan_pairable : (n k : ℕ) (outputs : List ℕ) → ∥ PlanLaw n outputs ∥₁ → length (paired n outputs) ≡ k → Pairable k (paired n outputs)
+plan_pairable n k outputs law e i p =
+    let q : n ≡ k = sym (law_size law) ∙ e in
+    elim (ℕ_discrete (get_or (paired n outputs) i none) none) [ yes z ↦ inl z | no z ↦ inr (rw (← q) (law_below law i (omega arith) z)) ]
 
 pub returns-in_err-check_settle : goal.returns-in_err-check_settle
 returns-in_err-check_settle g c =
     let p = err_from_is_err_and c.from_residual.result c.from_residual.ensures.1 in
     rw (p.1, p.2) (Refusal.broken c.in_err-check_settle.ensures, refl {a = c.args.setting.now})
 
-pub slice_bounds-scratch-end : goal.slice_bounds-scratch-end
-slice_bounds-scratch-end g c = omega (arith, c.cells.ensures, c.room-scratch.ensures, cells_few g.F.OuterColumns.OUTER c.args.self.now.level (elim g.F.OuterColumns.counted [ inl e ↦ omega arith | inr e ↦ omega arith ]) c.args.self.now.small)
+pub slice_bounds-table-end : goal.slice_bounds-table-end
+slice_bounds-table-end g c = rw (c.lines.ensures, c.outputs-table.ensures) (omega (arith, law_few c.args.plan.now.lawful, law_room c.args.plan.now.lawful))
 
-pub settle_all-requires : goal.settle_all-requires
-settle_all-requires g c =
+pub slice_bounds-pairs-end : goal.slice_bounds-pairs-end
+slice_bounds-pairs-end g c = rw (c.lines.ensures, c.outputs-table.ensures, law_size c.args.plan.now.lawful)
+
+pub slice_bounds-room-end : goal.slice_bounds-room-end
+slice_bounds-room-end g c = omega (arith, c.cells.ensures, cells_few g.F.OuterColumns.OUTER c.args.self.now.level.depth (outer_few g.F.OuterColumns.counted) c.args.self.now.level.small)
+
+pub slice_bounds-scratch-end : goal.slice_bounds-scratch-end
+slice_bounds-scratch-end g c = simp length-take (omega (arith, c.cells.ensures, cells_few g.F.OuterColumns.OUTER c.args.self.now.level.depth (outer_few g.F.OuterColumns.counted) c.args.self.now.level.small))
+
+pub settle_level-requires-clause-settleable : goal.settle_level-requires-clause-settleable
+settle_level-requires-clause-settleable g c =
     let ok = c.in_ok-check_settle.ensures in
-    let few = cells_few g.F.OuterColumns.OUTER c.args.self.now.level (elim g.F.OuterColumns.counted [ inl e ↦ omega arith | inr e ↦ omega arith ]) c.args.self.now.small in
     record {
-      small = c.args.self.now.small;
-      room = simp length-take (omega (arith, c.cells.ensures, c.room-scratch.ensures));
-      size = ok.sized.buffer_size;
-      sized = ok.sized.holds_size;
-      pairable = table_pairable c.args.plan.now.lines (lines_at c.args.self.now.level) c.args.plan.now.outputs c.outputs.result c.args.plan.now.lawful
-          (lines_are (halving g.F.OuterColumns.OUTER c.args.self.now.level) c.args.plan.now.lines c.args.plan.now.outputs c.args.holds.now c.args.setting.now c.args.plan.now.lawful ok) c.outputs.ensures;
-      holding = ok.holdable;
+      sized = record {
+        pairs_size = rw (c.lines.ensures, c.outputs-table.ensures) ok.sized.pairs_size;
+        holds_size = ok.sized.holds_size;
+        buffer_size = simp length-take (omega (arith, c.cells.ensures, cells_few g.F.OuterColumns.OUTER c.args.self.now.level.depth (outer_few g.F.OuterColumns.counted) c.args.self.now.level.small));
+      };
+      holdable = ok.holdable;
     }
 
-pub returns-then-settle_all : goal.returns-then-settle_all
-returns-then-settle_all g c =
-    let ok = c.in_ok-check_settle.ensures in
-    let all = lines_are (halving g.F.OuterColumns.OUTER c.args.self.now.level) c.args.plan.now.lines c.args.plan.now.outputs c.args.holds.now c.args.setting.now c.args.plan.now.lawful ok in
-    (ok, first_in_table (halving g.F.OuterColumns.OUTER c.args.self.now.level) c.args.plan.now.lines c.args.plan.now.outputs c.args.holds.now all c.outputs.result c.settle_all.new.setting c.outputs.ensures c.if-settle_all.ensures)
+pub settle_level-requires-clause-pairable : goal.settle_level-requires-clause-pairable
+settle_level-requires-clause-pairable g c = rw (c.lines.ensures, c.outputs-table.ensures) (plan_pairable c.args.plan.now.lines (lines_at c.args.self.now.level.depth) c.args.plan.now.outputs c.args.plan.now.lawful c.in_ok-check_settle.ensures.sized.pairs_size)
 
-pub returns-else-settle_all : goal.returns-else-settle_all
-returns-else-settle_all g c =
-    let ok = c.in_ok-check_settle.ensures in
-    let all = lines_are (halving g.F.OuterColumns.OUTER c.args.self.now.level) c.args.plan.now.lines c.args.plan.now.outputs c.args.holds.now c.args.setting.now c.args.plan.now.lawful ok in
-    let None-found = c.if-settle_all.ensures in
-    (Refusal.no_setting ok (unfit_in_table (halving g.F.OuterColumns.OUTER c.args.self.now.level) c.args.plan.now.lines c.args.plan.now.outputs c.args.holds.now all c.outputs.result c.outputs.ensures None-found.0), None-found.1)
+pub returns-then-not-settle_level : goal.returns-then-not-settle_level
+returns-then-not-settle_level g c = (Refusal.no_setting c.in_ok-check_settle.ensures (rw (c.lines.ensures, c.outputs-table.ensures) at c.if-not-settle_level.ensures), refl)
