@@ -12,6 +12,7 @@ use super::routes::Routes;
 use card::NONE;
 
 // Settles a card of this level, and says whether a setting fits. A `bool`: callers only test it, and an error of its own would say no more.
+// The pairs are a slice with a condition, not a struct with a law: in a cycle of calls no field can borrow a local today.
 #[cycle(search)]
 pub(super) fn settle_level<F: Routes>(
     family: &F,

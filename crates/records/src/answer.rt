@@ -57,7 +57,7 @@ pub fn put(answer: &Answer<'_>, out: &mut Vec<u8>) -> Result<(), AllocError>
     }
 }
 
-// Appends the bytes of an answer to a voice order, all of them or none.
+// Appends the bytes of an answer to a voice order, all of them or none. Not by `append`: frames are no slice of bytes.
 pub fn put_voice(frames: &[Frame], out: &mut Vec<u8>) -> Result<(), AllocError>
     ensures { out.new.items ≡ (if is_ok result then out.old.items ++ voice_bytes frames.now else out.old.items) }
 {
