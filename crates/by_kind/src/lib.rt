@@ -36,6 +36,7 @@ pub fn check(name: CardName, pairs: &[u8], holds: &[u8], sheet: &[u8]) -> Result
     let card = name.build()?;
     let plan = planned(card.lines(), pairs)?;
     let cells = card.cells() as usize;
+    // An array with room for every card, since these calls use no heap.
     let mut table = [0; 64];
     card.settle(&plan, holds, &mut table[0..cells])?;
     sheets::check(&card, &plan, holds, &table[0..cells], sheet)

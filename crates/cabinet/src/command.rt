@@ -13,7 +13,8 @@ pub enum Command<'a> {
     Voice(&'a [Frame]),
 }
 
-// What was done: how many cells moved; or what each output got, with silence past the last line.
+// What was done: how many cells moved; or what each output got, with silence past the last line, in arrays, since a cabinet
+// uses no heap.
 #[derive(Clone, Copy)]
 pub enum Reply {
     Moved(u8),

@@ -25,7 +25,8 @@ struct State {
     setting: [u8; 64],
 }
 
-// A card, and what stands in it.
+// A card, and what stands in it. It has no model of its own: `standing` cuts the state to the card's counts, and contracts
+// speak of the card's meaning beside it.
 #[derive(Drop)]
 pub struct Cabinet<C> {
     card: C,

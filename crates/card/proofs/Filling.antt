@@ -1,6 +1,6 @@
 -- A table filled from pairs that break no rule is a plan.
-use Rattle.std.proofs.Common.{◌++◌, drop, ◌≡◌, ℕ, ◌+◌, ◌<◌, ◌≤◌, List, length, get_or, take, sym, ◌∙◌, subst, inl, inr, ⊎_elim, arith}
-use Rattle.std.proofs.lemmas.List.{length-append, length-drop, get_or-take, length-take-le}
+use Rattle.std.proofs.Common.{◌++◌, ◌≡◌, ℕ, ◌+◌, ◌<◌, ◌≤◌, List, length, get_or, take, sym, ◌∙◌, subst, inl, inr, ⊎_elim, arith}
+use Rattle.std.proofs.lemmas.List.{get_or-take, length-take-le}
 use Rattle.std.proofs.Math.Seq.{take-append_seam}
 use Rattle.std.proofs.lemmas.Bool.{cases_lt}
 use Rattle.card.specs.Plans.{Pairs, PlanLaw, Free, Taken, Fine}
@@ -41,10 +41,6 @@ module _ (ps : List ℕ) (i o : ℕ) (inside : i < length ps) where
 
   pub free_part : Free (length (take i ps)) (take i ps) o → Free i ps o
   free_part f k h e = f k (omega (arith, size)) (part_at k h ∙ e)
-
--- pairs laid over the front of a table
-pub laid_size : (ps xs ys : List ℕ) → xs ≡ ps → length ps ≤ length ys → length (xs ++ drop (length ps) ys) ≡ length ys
-laid_size ps xs ys e h = rw e (simp (length-append, length-drop) (omega arith))
 
 pub laid_front : (ps xs ys : List ℕ) → xs ≡ ps → take (length ps) (xs ++ ys) ≡ ps
 laid_front ps xs ys e = rw e (take-append_seam ps ys)

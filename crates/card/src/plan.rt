@@ -5,7 +5,8 @@ ghost use Rattle.card.specs.Plans.{paired, Output, PlanLaw, Found, Idle, NotIdle
 use crate::NONE;
 use crate::fault::{Cause, Fault, Layer};
 
-// A plan of 2 to 16 lines. The table has an output for each line, or `NONE`; what stands past the last line means nothing.
+// A plan of 2 to 16 lines. The table has an output for each line, or `NONE`; what stands past the last line means nothing. An
+// array beside its count, since a plan uses no heap and is copied by value.
 #[derive(Clone, Copy)]
 pub struct Plan {
     lines: u8,

@@ -34,7 +34,7 @@ impl<F: Leaders> Columns<'_, F> {
         (0..self.last).find(|line| self.turn(position, *line) == output)
     }
 
-    // The pairs that are left for the columns before the last, if it stands at this position.
+    // The pairs that are left for the columns before the last, if it stands at this position: an array, since a card uses no heap.
     fn pull(&self, position: u8, outputs: [u8; 16]) -> Option<[u8; 16]>
         ensures { MatchOption result (Blocked F.Leaders.lead position self.now.last outputs) (λ rest. Pulled F.Leaders.lead position self.now.last outputs rest) }
     {

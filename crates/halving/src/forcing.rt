@@ -19,7 +19,7 @@ pub(super) fn start(holds: &[u8], column: &mut [u8])
     }
 }
 
-// Puts a free cell to a position; false if it stands at another.
+// Puts a free cell to a position; false if it stands at another. Here and below a `bool`, since callers only test it.
 fn put(cell: &mut u8, position: u8) -> bool
     ensures { Put position cell.old cell.new result }
 {

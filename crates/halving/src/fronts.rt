@@ -34,7 +34,7 @@ fn kept(holds: &[u8], column: &[u8]) -> bool
         .all(|(hold, position)| allows(*hold, *position))
 }
 
-// Writes the outer columns of number `n`, and says whether they serve.
+// Writes the outer columns of number `n`, and says whether they serve: a `bool`, since callers only test it.
 pub(super) fn try_front<F: Routes>(
     family: &F,
     half: Level,

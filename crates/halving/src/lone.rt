@@ -22,7 +22,7 @@ fn cell_fits(position: u8, pairs: &[u8], holds: &[u8]) -> bool
     allows(holds[0], position) && allows(pairs[0], position) && allows(pairs[1], 1 - position)
 }
 
-// Settles the cell; whatever it stands at before is written over.
+// Settles the cell; whatever it stands at before is written over. A `bool`, since callers only test it.
 pub(super) fn settle_cell(pairs: &[u8], holds: &[u8], setting: &mut [u8]) -> bool
     requires lines { length pairs.now ≡ 2 }
     requires sized { length holds.now ≡ 1 }

@@ -31,7 +31,7 @@ pub(super) fn settle_level<F: Routes>(
     }
 }
 
-// Settles a card whose halves are of this level. Outer columns are taken back when a half fails.
+// Settles a card whose halves are of this level. Outer columns are taken back when a half fails. A `bool`, as above.
 #[cycle(search)]
 fn settle_halves<F: Routes>(
     family: &F,

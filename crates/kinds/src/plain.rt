@@ -29,7 +29,8 @@ pub enum Plain {
     Baseline(HalvingCard<Baseline>),
 }
 
-// Each call is that of the card within, by a match: nothing of today's hands a call on to whichever card an enum holds.
+// Each call is that of the card within, by a match: a method that gives a `&dyn Card` for all six would hand out a dyn value,
+// which the gate refuses.
 impl Card for Plain {
     ghost meaning = { plain_meaning };
 

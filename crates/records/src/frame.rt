@@ -1,4 +1,4 @@
-// Voice frames as bytes.
+// Voice frames as bytes: functions and no `From`, which a crate may not write for a type of another crate.
 ghost use Rattle.std.specs.Prelude.{◌≡◌, ◌+◌, ◌≤◌, [], ◌∷◌, length, take, drop};
 ghost use Rattle.payload.specs.declared.Frame.{Frame};
 ghost use Rattle.records.specs.Frames.{Typed, Framed, Appended, frame_bytes, sample_bytes, wide};

@@ -1,7 +1,7 @@
 // The check of another house's sheet: a setting for the same pairs and holds.
 #![tactic(auto)]
 
-ghost use Rattle.std.specs.Prelude.{◌≡◌, Some, length, slice_index_or};
+ghost use Rattle.std.specs.Prelude.{◌≡◌, ◌≢◌, Some, MatchOption, length, slice_index_or};
 ghost use Rattle.card.specs.declared.fault.Layer.TheVariants.{Cabinet};
 ghost use Rattle.card.specs.Faults.{fault};
 ghost use Rattle.card.specs.Meaning.{Lawful};
@@ -56,11 +56,12 @@ fn refusal(cause: Cause, place: u8) -> Fault
     }
 }
 
-// The held position of a cell, or `NONE`.
-fn held(holds: &[u8], cell: u8) -> u8
-    ensures { result ≡ slice_index_or holds.now cell none }
+// The position that a cell is held at, if it is held.
+fn held(holds: &[u8], cell: usize) -> Option<u8>
+    ensures { MatchOption result (slice_index_or holds.now cell none ≡ none) (λ p. (slice_index_or holds.now cell none ≡ p) × (p ≢ none)) }
 {
-    holds.get(cell as usize).copied().unwrap_or(NONE)
+    let hold = *holds.get(cell)?;
+    (hold != NONE).then_some(hold)
 }
 
 // Whether the sheet has a position for each cell, each in its range. The card's own checks, with the check's layer.
@@ -76,12 +77,11 @@ fn check_holds<C: Card>(card: &C, holds: &[u8], sheet: &[u8]) -> Result<(), Faul
     requires { length sheet.now ≡ (C.Card.meaning card.now).cells }
     ensures { HoldsChecked (C.Card.meaning card.now) holds.now sheet.now result }
 {
-    let cells = card.cells();
-    // An index loop: the cell is the place of a refusal, and the holds may be fewer than the cells.
-    for cell in 0..cells {
-        let hold = held(holds, cell);
-        if hold != NONE && sheet[cell as usize] != hold {
-            return Err(refusal(Cause::SheetHold, cell));
+    for (cell, &position) in sheet[..card.cells() as usize].iter().enumerate() {
+        if let Some(hold) = held(holds, cell) {
+            if position != hold {
+                return Err(refusal(Cause::SheetHold, cell as u8));
+            }
         }
     }
     Ok(())

@@ -30,7 +30,7 @@ pub(crate) fn bytes(heap: Global, text: &str) -> Result<Vec<u8>, AllocError> {
         .collect(heap)
 }
 
-// Bytes with a blank between two.
+// Bytes with a blank between two. Beside `List`, which prints in decimal: std prints only integers in hexadecimal.
 #[derive(Clone, Copy, Drop)]
 pub(crate) struct Hex<'a>(pub(crate) &'a [u8]);
 

@@ -51,7 +51,7 @@ pub(crate) fn read_case(rt: &impl Print, heap: Global, case: &Case<'_>) -> io::R
     }
 }
 
-// The order of a text and its numbers.
+// The order of a text and its numbers. Not made from the command of the same text: an order may be a commission or carry voice.
 fn order<'a>(text: &str, n: &'a [u8]) -> Order<'a> {
     match Word::of(text) {
         Some(Word::Commission) => Order::Commission {

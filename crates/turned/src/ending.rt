@@ -5,7 +5,8 @@ ghost use Rattle.turned.specs.Turning.{source, EndsAt};
 
 use card::Card;
 
-// The one input that ends at this output.
+// The one input that ends at this output. A `for`: tried with `find`, whose predicate would have to ask the card and unwrap, and
+// the proof did not close.
 pub(super) fn ending_at<C: Card>(card: &C, setting: &[u8], output: u8) -> u8
     requires lawful { Lawful (C.Card.meaning card.now) setting.now }
     requires inside { output < (C.Card.meaning card.now).lines }

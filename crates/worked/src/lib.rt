@@ -21,7 +21,7 @@ pub fn case_count() -> usize
     13
 }
 
-// The case at an index; none past the last.
+// The case at an index; none past the last. A match, since no static holds structs with slices today.
 pub fn case(index: usize) -> Option<Case>
     ensures { option_map shown result ≡ slice_get table index }
 {

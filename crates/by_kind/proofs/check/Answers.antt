@@ -1,4 +1,4 @@
-use Rattle.std.proofs.Common.{ℕ, ◌-◌, subst, arith, length-append}
+use Rattle.std.proofs.Common.{ℕ, ◌-◌, subst, arith}
 use Rattle.std.proofs.lemmas.Result.{err_from_is_err_and}
 use Rattle.card.specs.PlanPairs.{pairs_of}
 use Rattle.kinds.specs.Kinds.{built_meaning}
@@ -13,9 +13,6 @@ pub returns-in_err-card : goal.returns-in_err-card
 returns-in_err-card c =
     let p = err_from_is_err_and c.from_residual.result c.from_residual.ensures.1 in
     the_sheet _ _ _ _ _ _ (rw (p.1, p.2, c.in_err-card.ensures.1) (SheetAnswer.unknown c.in_err-card.ensures.0))
-
-pub planned-requires : goal.planned-requires
-planned-requires c = let ok = built_sound c.in_ok-card.card in record { some = omega (arith, c.lines.ensures, ok.some_lines); few = omega (arith, c.lines.ensures, ok.few_lines) }
 
 pub returns-in_err-plan : goal.returns-in_err-plan
 returns-in_err-plan c =
@@ -37,9 +34,6 @@ returns-in_err-settle c =
     (subst (λ (n : ℕ). PlanFine n c.args.pairs.now) c.lines.ensures c.in_ok-plan.ensures.0)
     (c.cells-cells.result - 0) (omega (arith, c.cells-cells.ensures)) (built_sound c.in_ok-card.card).few_cells (pairs_of c.in_ok-plan.plan) c.in_ok-plan.ensures.1
     c.in_err-settle.field-0.0 c.in_err-settle.ensures.0))
-
-pub slice_bounds-check-end : goal.slice_bounds-check-end
-slice_bounds-check-end c = simp length-append (omega (arith, c.settle.auto.setting))
 
 pub returns : goal.returns
 returns c =

@@ -1,8 +1,7 @@
-use Rattle.std.proofs.Common.{ℕ, List, subst, arith}
+use Rattle.std.proofs.Common.{ℕ, List, subst}
 use Rattle.std.proofs.lemmas.Result.{err_from_is_err_and}
 use Rattle.card.specs.Settling.{Settled}
 use Rattle.kinds.specs.Kinds.{built_meaning}
-use Rattle.kinds.specs.Soundness.{built_sound}
 use Rattle.by_kind.specs.Planning.{PlanFine, PlanBroken}
 use Rattle.by_kind.specs.Answering.{SettleAnswer}
 use Rattle.by_kind.proofs.Only.{the_settling}
@@ -12,9 +11,6 @@ pub returns-in_err-card : goal.returns-in_err-card
 returns-in_err-card c =
     let p = err_from_is_err_and c.from_residual.result c.from_residual.ensures.1 in
     the_settling _ _ _ _ _ _ (rw (p.1, p.2, c.in_err-card.ensures.1) (SettleAnswer.unknown c.in_err-card.ensures.0))
-
-pub planned-requires : goal.planned-requires
-planned-requires c = let ok = built_sound c.in_ok-card.card in record { some = omega (arith, c.lines.ensures, ok.some_lines); few = omega (arith, c.lines.ensures, ok.few_lines) }
 
 pub returns-in_err-plan : goal.returns-in_err-plan
 returns-in_err-plan c =

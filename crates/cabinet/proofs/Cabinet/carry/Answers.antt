@@ -1,4 +1,4 @@
-use Rattle.std.proofs.Common.{◌≡◌, length, get_or, take, Err, sym, refl, ◌∙◌, arith, rules}
+use Rattle.std.proofs.Common.{◌≡◌, length, take, Err, sym, refl, ◌∙◌, arith, rules}
 use Rattle.std.proofs.lemmas.Result.{err_from_is_err_and}
 use Rattle.card.specs.declared.fault.Cause.TheVariants.{WrongLength}
 use Rattle.card.specs.declared.fault.Layer.TheVariants.{Cabinet}
@@ -7,7 +7,6 @@ use Rattle.cabinet.specs.Carrying.{Sent}
 use Rattle.cabinet.specs.States.{standing}
 use Rattle.cabinet.proofs.Steady.{follow_carry, ready, routed_pairs}
 use Rattle.cabinet.proofs.Routes.{sending, arriving, same_outputs}
-use Rattle.cabinet.proofs.Calls.{written}
 use Rattle.cabinet.proofs.Cabinet.carry.Goals as goal
 use Rattle.cabinet.proofs.Cabinet.carry.Goals.{then-given-lines-via-then-given-lines, then-given-lines-via-else-given-lines+then-out-lines}
 
@@ -32,12 +31,6 @@ returns-in_err-route g c =
       refl,
       follow_carry (g.C.Card.meaning c.args.self.now.card) (g.met.C.Card.sound c.args.self.now.card) (standing (g.C.Card.meaning c.args.self.now.card) c.args.self.now.state) (length c.args.given.now) (length c.args.out.now) (Err p.0) (λ r. absurd (c.in_err-route.ensures r)),
     )
-
-pub loop-output-init : goal.loop-output-init
-loop-output-init g c = λ o h. absurd (omega arith)
-
-pub loop-output-preserved : goal.loop-output-preserved
-loop-output-preserved g c = written c.loop-output.out c.loop-output.output c.sent.result g.P.Payload.silent (λ o p. p ≡ get_or c.args.given.now (get_or c.in_ok-route.route o 0) g.P.Payload.silent) (omega (arith, c.loop-output.auto.out)) c.loop-output.invariant c.sent.ensures
 
 pub returns : goal.returns
 returns g c =

@@ -1,9 +1,9 @@
 use Rattle.std.proofs.Common.{List, ℕ, Ok, subst, arith}
 use Rattle.std.proofs.lemmas.Result.{err_from_is_err_and}
-use Rattle.card.specs.Placing.{Placeable, Placed}
+use Rattle.card.specs.Placing.{Placed}
 use Rattle.card.proofs.Pairing.{is_idle, is_busy}
 use Rattle.cabinet.specs.States.{standing}
-use Rattle.cabinet.proofs.Routes.{SoFar, none_yet, idle_next, busy_next, all_found, never_refused}
+use Rattle.cabinet.proofs.Routes.{SoFar, idle_next, busy_next, all_found, never_refused}
 use Rattle.cabinet.proofs.Cabinet.route.Goals as goal
 use Rattle.cabinet.proofs.Cabinet.route.Goals.{then-is_some+in_ok-place, else-is_some}
 
@@ -14,13 +14,6 @@ returns-in_err-place g c =
     (λ r. never_refused (g.C.Card.meaning c.args.self.now.card) c.setting.result.now c.loop-input.input c.columns-columns.result c.in_err-place.field-0.0
     (rw c.setting.ensures (record { lawful = r.first.fits.lawful; input = omega (arith, c.lines-input-end.ensures); reached = omega (arith, c.columns-columns.ensures) }))
     c.in_err-place.ensures)
-
-pub bounds-table-place : goal.bounds-table-place
-bounds-table-place g c =
-    let m = g.C.Card.meaning c.args.self.now.card in
-    let sound = g.met.C.Card.sound c.args.self.now.card in
-    let ok : Placeable m c.setting.result.now c.loop-input.input c.columns-columns.result = c.in_ok-place.ensures.0 in
-    omega (arith, c.in_ok-place.ensures.1, sound.within c.setting.result.now ok.lawful c.loop-input.input c.columns-columns.result ok.input ok.reached, sound.few_lines)
 
 pub loop-input-preserved : goal.loop-input-preserved
 loop-input-preserved g c =
@@ -39,6 +32,3 @@ returns g c =
     let m = g.C.Card.meaning c.args.self.now.card in
     let s = standing m c.args.self.now.state in
     λ r. all_found m (g.met.C.Card.sound c.args.self.now.card) s c.loop-input.table (subst (λ (n : ℕ). SoFar m s n c.loop-input.table) (omega (arith, c.lines-input-end.ensures)) c.loop-input.invariant)
-
-pub loop-input-init : goal.loop-input-init
-loop-input-init g c = none_yet (g.C.Card.meaning c.args.self.now.card) (standing (g.C.Card.meaning c.args.self.now.card) c.args.self.now.state)

@@ -35,10 +35,3 @@ loop-i-preserved g c =
       | else-hold-via-then-hold+in_ok-positions+else-branch w ↦ inr (omega (arith, d, w.in_ok-positions.ensures.1, w.if-branch.false))
       | else-hold-via-else-hold w ↦ inl (sym d ∙ w.if-hold.false)
     ])
-
-pub returns : goal.returns
-returns g c =
-    record {
-      sized = record { pairs_size = law_size c.args.plan.now.lawful ∙ sym c.lines.ensures ∙ c.if-lines.false ∙ c.lines-2.ensures; holds_size = c.if-holds-cells.false ∙ c.cells-cells.ensures; buffer_size = c.if-setting-cells.false ∙ c.cells-cells.ensures };
-      holdable = λ d h. c.loop-i.invariant d (omega (arith, c.cells-cells.ensures));
-    }

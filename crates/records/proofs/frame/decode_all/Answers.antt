@@ -1,10 +1,7 @@
-use Rattle.std.proofs.Common.{ℕ, List, take, length, ap, ◌∙◌, Bor, inl, inr, refl, subst, arith}
-use Rattle.records.proofs.Bodies.{SoFar, left_more, left_short, none_yet, one_more, none_more, framed}
+use Rattle.std.proofs.Common.{ℕ, List, take, length, ap, ◌∙◌, Bor, inl, inr, subst, arith}
+use Rattle.records.proofs.Bodies.{SoFar, left_more, left_short, one_more, none_more, framed}
 use Rattle.records.proofs.frame.decode_all.Goals as goal
 use Rattle.records.proofs.frame.decode_all.Goals.{in-Some, in_default}
-
-pub loop-i-init : goal.loop-i-init
-loop-i-init c = (none_yet c.args.body.now c.silence-frames.result c.silence-frames.ensures, inl refl)
 
 pub loop-i-preserved : goal.loop-i-preserved
 loop-i-preserved c =

@@ -1,7 +1,7 @@
-use Rattle.std.proofs.Common.{rules, refl, inl, arith}
+use Rattle.std.proofs.Common.{rules, refl, inl}
 use mathlib.Core.Logic.{∥∥₁_map}
 use Rattle.card.specs.Plans.{Undroppable}
-use Rattle.card.proofs.Pairing.{law_few, put_law, take_set_below, is_idle, is_busy}
+use Rattle.card.proofs.Pairing.{put_law, take_set_below, is_idle, is_busy}
 use Rattle.card.proofs.plan.Plan.drop.Goals as goal
 
 pub returns-then-input-self : goal.returns-then-input-self
@@ -9,9 +9,6 @@ returns-then-input-self c = record { pairs = (Undroppable.no_input c.if-input-se
 
 pub returns-then-is_none : goal.returns-then-is_none
 returns-then-is_none c = record { pairs = (Undroppable.idle_input c.if-input-self.false (is_idle _ c.args.input _ c.output.ensures (search rules)), refl); lines = refl }
-
-pub bounds-self-input : goal.bounds-self-input
-bounds-self-input c = omega (arith, law_few c.args.self.now.lawful)
 
 pub invariant_of-self : goal.invariant_of-self
 invariant_of-self c = record { lawful = ∥∥₁_map c.args.self.now.lawful (put_law _ _ c.args.input 255 c.if-input-self.false (inl refl) (λ z. absurd (z refl))) }

@@ -1,7 +1,7 @@
-use Rattle.std.proofs.Common.{rules, ℕ, sym, refl, ◌∙◌, subst, inl, inr, arith, length, take, replicate}
+use Rattle.std.proofs.Common.{rules, ℕ, sym, refl, ◌∙◌, subst, inl, inr, arith, length, take}
 use Rattle.std.proofs.lemmas.List.{get_or_default}
 use Rattle.card.specs.Plans.{Unplannable, Taken, Free}
-use Rattle.card.proofs.Filling.{filled_law, fine_more, taken_part, free_part, laid_size, laid_front}
+use Rattle.card.proofs.Filling.{fine_more, taken_part, free_part}
 use Rattle.card.proofs.plan.Plan.fill.Goals as goal
 use Rattle.card.proofs.plan.Plan.fill.Goals.{then-output+else-output-lines+else-contains, else-output, then-lines-lt2-via-then-lines-lt2, then-lines-lt2-via-else-lines-lt2+then-lines-gt16}
 
@@ -40,16 +40,3 @@ loop-i-preserved c =
       | then-output+else-output-lines+else-contains w ↦ inr (omega (arith, w.if-output-lines.false), subst (λ (x : ℕ). Free c.loop-i.i c.args.pairs.now x) e (free_part c.args.pairs.now c.loop-i.i _ c.loop-i-test.true (search rules)))
       | else-output w ↦ inl (sym e ∙ w.if-output.false)
     ])
-
-pub invariant_of-self : goal.invariant_of-self
-invariant_of-self c =
-    record {
-      lawful = ∣ filled_law (length c.args.pairs.now) c.args.pairs.now _ c.if-lines-lt2.false c.if-lines-gt16.false (laid_size c.args.pairs.now _ (replicate 16 255) c.copy_from_slice.ensures.after c.if-lines-gt16.false) (laid_front c.args.pairs.now _ _ c.copy_from_slice.ensures.after)
-          (λ k h. c.loop-i.invariant k (omega arith)) ∣₁;
-    }
-
-pub returns : goal.returns
-returns c = (
-  record { sized = record { some = c.if-lines-lt2.false; few = c.if-lines-gt16.false }; fine = λ k h. c.loop-i.invariant k (omega arith) },
-  laid_front c.args.pairs.now _ _ c.copy_from_slice.ensures.after,
-)

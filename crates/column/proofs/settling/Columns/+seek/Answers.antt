@@ -6,12 +6,6 @@ use Rattle.column.proofs.Seeking.{seek_none, tried_all, seek_found, seek_unserve
 use Rattle.column.proofs.settling.Columns.+seek.Goals as goal
 use Rattle.column.proofs.settling.Columns.+seek.Goals.{in-Some, in-None}
 
-pub returns-then-outputs : goal.returns-then-outputs
-returns-then-outputs g t c =
-    seek_none g.F.Leaders.lead c.args.self.now.last c.args.outputs _ _ c.if-self-eq0.true (omega arith) _
-    (λ e b. absurd (b c.if-outputs.true))
-    (λ e. absurd (eqb-false _ _ e c.if-outputs.true))
-
 pub returns-else-outputs : goal.returns-else-outputs
 returns-else-outputs g t c =
     seek_none g.F.Leaders.lead c.args.self.now.last c.args.outputs _ _ c.if-self-eq0.true (omega arith) _

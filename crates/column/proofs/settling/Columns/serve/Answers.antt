@@ -1,13 +1,8 @@
 -- A position serves, or the hold, its own line or another line rules it out.
 use Rattle.std.proofs.Common.{◌-◌, sym, ◌∙◌, ⊎_elim, arith}
-use Rattle.column.proofs.Stepping.{cases_map, unheld, unsent, blocked, served}
+use Rattle.column.proofs.Stepping.{cases_map, unsent, blocked, served}
 use Rattle.column.proofs.settling.Columns.serve.Goals as goal
 use Rattle.column.proofs.settling.Columns.serve.Goals.{else-wanted-via-then-wanted+else-turn-wanted, else-wanted-via-else-wanted}
-
-pub returns-then-hold-position : goal.returns-then-hold-position
-returns-then-hold-position g c =
-    unheld g.F.Leaders.lead g.met.F.Leaders.leading c.args.self.now.last (c.args.self.now.last - 1) c.args.position c.args.hold c.args.outputs
-    (omega arith) (omega arith) (omega arith) (omega arith) c.if-hold-ne-NONE.true c.if-hold-position.true
 
 pub returns-then-turn-wanted : goal.returns-then-turn-wanted
 returns-then-turn-wanted g c =

@@ -1,11 +1,8 @@
 use Rattle.std.proofs.Common.{ℕ, List, ◌++◌, take, vec_items, sym, subst}
-use Rattle.std.proofs.lemmas.List.{append-nil, take_all, take_more}
+use Rattle.std.proofs.lemmas.List.{take_all, take_more}
 use Rattle.conversation.specs.Talking.{Heard}
 use Rattle.conversation.proofs.HearingOn.{both}
 use Rattle.conversation.proofs.talk.Talk.feed.Goals as goal
-
-pub loop-byte-init : goal.loop-byte-init
-loop-byte-init c heard drained old = subst (λ (x : List ℕ). Heard x (drained ++ vec_items c.args.out.now) c.args.self.now) (sym (append-nil heard)) old
 
 pub loop-byte-preserved : goal.loop-byte-preserved
 loop-byte-preserved c heard drained old =
