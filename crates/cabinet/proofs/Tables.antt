@@ -1,10 +1,8 @@
 -- Carries into a table that began silent.
-use Rattle.std.proofs.Common.{◌≡◌, ℕ, ◌-◌, ◌≤◌, List, ◌++◌, length, take, drop, replicate, Ok, Err, sym, ap, ◌∙◌, subst}
+use Rattle.std.proofs.Common.{◌≡◌, ℕ, ◌-◌, ◌≤◌, List, ◌++◌, length, take, drop, replicate, Ok, sym, ap, ◌∙◌, subst}
 use Rattle.std.proofs.lemmas.List.{take_at, drop_at, length-take-le, drop-replicate}
-use Rattle.card.specs.declared.fault.Fault.{Fault}
 use Rattle.card.specs.Meaning.{Meaning}
 use Rattle.cabinet.specs.Logs.{Standing}
-use Rattle.cabinet.specs.Telling.{FollowsCarry}
 use Rattle.cabinet.specs.Carrying.{Went, Carried, CarriedOut}
 
 module _ {P : Type 0} (silent x : P) (m : Meaning) (s : Standing) (given new : List P) (k : ℕ) (lines : k ≡ m.lines) (room : k ≤ 16) (kept : length new ≡ length (take k (replicate 16 x))) where
@@ -17,6 +15,3 @@ module _ {P : Type 0} (silent x : P) (m : Meaning) (s : Standing) (given new : L
         (subst (λ (n : ℕ). Went silent m s given n new) size w),
     drop_at new (drop k (replicate 16 x)) m.lines (kept ∙ size) ∙ ap (λ (n : ℕ). drop n (replicate 16 x)) lines ∙ drop-replicate m.lines 16 x ∙ ap (λ y. replicate (16 - m.lines) y) e,
   )
-
-  pub untabled : (e : Fault) → Carried silent m s given (take k (replicate 16 x)) new (Err e) → CarriedOut silent m s given (Err e)
-  untabled e w = subst (λ (n : ℕ). FollowsCarry m s (length given) n (Err e)) size w.1

@@ -1,9 +1,8 @@
 -- A table filled from pairs that break no rule is a plan.
-use Rattle.std.proofs.Common.{◌++◌, ◌≡◌, ℕ, ◌+◌, ◌<◌, ◌≤◌, List, length, get_or, take, sym, ◌∙◌, subst, inl, inr, ⊎_elim, arith}
+use Rattle.std.proofs.Common.{◌≡◌, ℕ, ◌+◌, ◌<◌, List, length, get_or, take, sym, ◌∙◌, subst, inl, inr, ⊎_elim, arith}
 use Rattle.std.proofs.lemmas.List.{get_or-take, length-take-le}
-use Rattle.std.proofs.Math.Seq.{take-append_seam}
 use Rattle.std.proofs.lemmas.Bool.{cases_lt}
-use Rattle.card.specs.Plans.{Pairs, PlanLaw, Free, Taken, Fine}
+use Rattle.card.specs.Plans.{Pairs, Free, Taken, Fine}
 
 -- inputs that are fine, read upward, are pairs
 pub fine_pairs : (n : ℕ) (ps : List ℕ) → ((i : ℕ) → i < n → Fine n ps i) → Pairs n ps
@@ -18,10 +17,6 @@ fine_pairs n ps fine =
 
     two : (i j : ℕ) → i < n → j < n → (get_or ps i 255 ≡ 255 → ⊥) → get_or ps i 255 ≡ get_or ps j 255 → j < i → i ≡ j
     two i j h k ne e z = ⊎_elim (λ q. absurd (ne q)) (λ p. absurd (p.1 j z (sym e))) (fine i h)
-
-pub filled_law : (n : ℕ) (ps xs : List ℕ) → 2 ≤ n → n ≤ 16 → length xs ≡ 16 → take n xs ≡ ps → ((i : ℕ) → i < n → Fine n ps i) → PlanLaw n xs
-filled_law n ps xs some few room same fine =
-    record { count = record { some = some; few = few }; room = room; pairs = rw same (fine_pairs n ps fine) }
 
 -- one input more
 pub fine_more : (n : ℕ) (ps : List ℕ) (i : ℕ) → ((k : ℕ) → k < i → Fine n ps k) → Fine n ps i → (k : ℕ) → k < i + 1 → Fine n ps k
@@ -41,6 +36,3 @@ module _ (ps : List ℕ) (i o : ℕ) (inside : i < length ps) where
 
   pub free_part : Free (length (take i ps)) (take i ps) o → Free i ps o
   free_part f k h e = f k (omega (arith, size)) (part_at k h ∙ e)
-
-pub laid_front : (ps xs ys : List ℕ) → xs ≡ ps → take (length ps) (xs ++ ys) ≡ ps
-laid_front ps xs ys e = rw e (take-append_seam ps ys)

@@ -40,10 +40,6 @@ module _ (lead : ℕ → ℕ → ℕ → ℕ) (law : Leading lead) (j m k hold :
   below : (hs ks : List ℕ) → Fits (column_card lead j) pairs (hold ∷ hs) (k ∷ ks) → Ranged ks
   below hs ks f = tail_of k ks (ranged lead law j (k ∷ ks) f.lawful)
 
-  -- a position is ruled out by the hold, by the line at j, or by a line below j
-  pub unheld : (hold ≡ none → ⊥) → (hold ≡ k → ⊥) → Unserved lead j pairs hold k
-  unheld b n hs ks f = n (sym (f.keeps 0 (omega arith) b))
-
   pub unsent : (get_or pairs j 0 ≡ none → ⊥) → (turned lead k j j ≡ get_or pairs j 0 → ⊥) → Unserved lead j pairs hold k
   unsent b n hs ks f =
       let s : suc (length ks) ≡ j = f.lawful.size in

@@ -2,19 +2,9 @@
 use Rattle.std.proofs.Common.{◌≡◌, ℕ, ◌+◌, ◌<◌, ◌≤◌, true, false, ◌≢◌, List, length, get_or, set, sym, refl, ap, ◌∙◌, subst, subst₂, ◌⊎◌, inl, inr, arith, length-set, get_or-set_other, get_or-set_same}
 use native.Mathlib.Decide.{ℕ_discrete}
 use Rattle.card.specs.Settling.{none}
-use Rattle.halving.specs.Column.{Open, Obeys, Forced, Put, Filling}
+use Rattle.halving.specs.Column.{Obeys, Forced, Put, Filling}
 
 module _ (at to : ℕ → ℕ) (pairs start : List ℕ) (small : (j : ℕ) → to j < 2) where
-  pub force_none : Open start → Forced 0 at to pairs start start
-  force_none range =
-      record {
-        size = refl;
-        range = range;
-        kept = λ c p k. refl;
-        sent = λ j p. absurd (omega arith);
-        due = λ t w c p k. sym (w.kept c p k);
-      }
-
   pub force_skip : (i : ℕ) (l : List ℕ) → get_or pairs i none ≡ none → Forced i at to pairs start l → Forced (i + 1) at to pairs start l
   force_skip i l e f =
       record {

@@ -87,10 +87,3 @@ module _ (body : List ℕ) (frames : List Frame) (done : SoFar body 16 frames) w
         others = done.others;
         all = λ n h l. front n h (omega arith) ∙ take_all (11 * n) body (omega arith);
       }
-
--- one frame more is appended
-pub put_more : (default : Frame) (before items new bytes : List ℕ) (fs : List Frame) (i : ℕ) → i < length fs → items ≡ before ++ frames_bytes (take i fs) → bytes ≡ frame_bytes (get_or fs i default) → new ≡ items ++ bytes → new ≡ before ++ frames_bytes (take (i + 1) fs)
-put_more default before items new bytes fs i h old is pushed =
-    pushed ∙ ap (λ (x : List ℕ). items ++ x) is ∙ ap (λ (x : List ℕ). x ++ frame_bytes (get_or fs i default)) old
-    ∙ flat_map_more frame_bytes before (take i fs) (get_or fs i default)
-    ∙ ap (λ (x : List Frame). before ++ frames_bytes x) (sym (take_more fs i default h))

@@ -22,6 +22,22 @@ halved : (g : _) (t : ℕ) (c : settle_halves-After-split_at_mut-upper g t) (b :
     → Halved g.F.OuterColumns.OUTER (lines_at c.args.half.depth) (lines_at c.args.half.depth) c.args.pairs.now s b a
 halved g t c b s a u = planned g.F.OuterColumns.OUTER (lines_at c.args.half.depth) b c.args.pairs.now s a (rw c.lines-lines.ensures.count at u)
 
+pub settle_halves-settle_level-requires : goal.settle_halves-settle_level-requires
+settle_halves-settle_level-requires g t c κs within =
+    let d = (goal.at.settle_halves-settle_level-requires g t c).After-split_at_mut-upper in
+    let p = parts g t d in
+    let kept = c.loop-n.auto in
+    let lines = c.half_plan.auto.plan ∙ c.loop-n.auto.plan ∙ length-take-le c.lines-lines.result _ c.lines-lines.ensures.few ∙ c.lines-lines.ensures.count in (
+      omega (arith, c.decreases),
+      (
+        within,
+        (
+          (half_settleable c.half_plan.new.plan c.requires.settleable (holds_split g t d) lines (omega (arith, p.upper)) p.lower).0,
+          c.half_plan.ensures.pairable,
+        ),
+      ),
+    )
+
 pub settle_halves-settle_level-requires-in-loop-n : goal.settle_halves-settle_level-requires-in-loop-n
 settle_halves-settle_level-requires-in-loop-n g t c κs within =
     let d = (goal.at.settle_halves-settle_level-requires-in-loop-n g t c).After-split_at_mut-upper in
