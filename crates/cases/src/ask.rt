@@ -48,7 +48,7 @@ impl Ask {
         named(&all, line)
     }
 
-    // Prints the answer.
+    // Prints the answer. No clause: the library says nothing of what is printed; the calls and the texts have their own.
     pub fn answer(self, rt: &impl Print, heap: Global, case: &Case<'_>) -> io::Result<()> {
         let name = case.card();
         match self {

@@ -98,8 +98,8 @@ impl fmt::Display for Said {
     }
 }
 
-// A fresh cabinet obeys the orders of a case.
-pub fn obey(rt: &impl Print, heap: Global, case: &Case<'_>) -> io::Result<()> {
+// A fresh cabinet obeys the orders of a case, and the replies are printed.
+pub(crate) fn obey(rt: &impl Print, heap: Global, case: &Case<'_>) -> io::Result<()> {
     let lines = case.card().lines;
     let card = match case.card().build() {
         Ok(card) => card,
