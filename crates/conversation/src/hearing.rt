@@ -1,5 +1,5 @@
 // A conversation, heard in pieces of any length.
-ghost use Rattle.std.specs.Prelude.{◌≡◌, [], ◌∷◌, IfOk, OnOk};
+ghost use Rattle.std.specs.Prelude.{◌≡◌, [], ◌∷◌, IfOk, OnOk, OnErr};
 ghost use Rattle.records.specs.Format.{image};
 ghost use Rattle.conversation.specs.Answering.{Responded, phase_lines, over_phase};
 ghost use Rattle.conversation.specs.Talking.{Heard, Hears, Finishes, Ended};
@@ -55,7 +55,8 @@ impl Talk {
 
     // Hears one byte, and says the answer if a record ends with it. Where there is no memory for the answer, the byte is not held.
     pub fn hear(&mut self, byte: u8, out: &mut Vec<u8>) -> Result<(), AllocError>
-        ensures { OnOk result (Hears (byte ∷ []) out.old.items self.old out.new.items self.new) }
+        ensures heard { OnOk result (Hears (byte ∷ []) out.old.items self.old out.new.items self.new) }
+        ensures held { OnErr result (self.new.pending.items ≡ self.old.pending.items) }
     {
         if self.is_over() {
             return Ok(());

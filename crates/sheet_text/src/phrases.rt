@@ -3,7 +3,6 @@ ghost use Rattle.std.specs.Prelude.{◌≡◌};
 ghost use Rattle.sheet_text.specs.Phrases.{misread_words};
 
 use super::reading::Misread;
-
 pub use card::fault::cause_words;
 pub use sheets::verdict_words;
 
