@@ -27,11 +27,15 @@ tested() { # CRATE EDIT
     python3 - "$at/crates/$1" "$2" <<'END' || return 2
 import sys
 crate, edit = sys.argv[1:]
-lines = dict(line.rstrip("\n").split(": ", 1) for line in open(edit) if ": " in line)
-path = f"{crate}/{lines['file']}"
-text = open(path).read()
-assert text.count(lines["old"]) == 1
-open(path, "w").write(text.replace(lines["old"], lines["new"]))
+said = {}
+for line in open(edit):
+    word, _, rest = line.rstrip("\n").partition(": ")
+    said[word] = rest
+    if word == "new":
+        path = f"{crate}/{said['file']}"
+        text = open(path).read()
+        assert text.count(said["old"]) == 1
+        open(path, "w").write(text.replace(said["old"], rest))
 END
     (cd "$at" && rt ci) >"$work/tested.log" 2>&1
 }

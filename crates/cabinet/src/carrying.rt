@@ -24,7 +24,7 @@ impl<C: Card> Cabinet<C> {
         let mut table = [NONE; 16];
         for input in 0..self.card.lines() {
             if self.state.plan.output(input).is_some() {
-                let place = self.card.place(self.setting(), input, columns)?;
+                let place = self.card.place(self.standing_setting(), input, columns)?;
                 table[place as usize] = input;
             }
         }

@@ -13,6 +13,7 @@ impl<C: Card> Cabinet<C> {
         ensures { Checked (C.Card.meaning self.now.card) (standing (C.Card.meaning self.now.card) self.now.state) sheet.now result }
     {
         let holds = &self.state.holds[..self.card.cells() as usize];
-        sheets::check(&self.card, &self.state.plan, holds, self.setting(), sheet)
+        let standing = self.standing_setting();
+        sheets::check(&self.card, &self.state.plan, holds, standing, sheet)
     }
 }

@@ -73,8 +73,15 @@ impl<C: Card> Cabinet<C> {
         &self.card
     }
 
-    // The standing setting: a position for each cell.
-    pub fn setting(&self) -> &[u8]
+    // The standing setting, in a table that has room for more cells than the card has.
+    pub fn setting(&self) -> [u8; 64]
+        ensures { result ≡ self.now.state.setting }
+    {
+        self.state.setting
+    }
+
+    // The standing setting: a position for each cell, not copied.
+    pub fn standing_setting(&self) -> &[u8]
         ensures { result.now ≡ (standing (C.Card.meaning self.now.card) self.now.state).setting }
     {
         &self.state.setting[..self.card.cells() as usize]

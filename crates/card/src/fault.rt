@@ -29,30 +29,36 @@ pub enum Cause {
 }
 
 // The cause in words.
+pub fn cause_words(cause: Cause) -> &'static str
+    ensures { result.now ≡ cause_words cause }
+{
+    match cause {
+        Cause::UnknownCard => "kind or line count unknown",
+        Cause::NoInput => "no such input",
+        Cause::NoOutput => "no such output",
+        Cause::InputBusy => "input busy",
+        Cause::OutputBusy => "output busy",
+        Cause::InputIdle => "input idle",
+        Cause::NoCell => "no such cell",
+        Cause::NoPosition => "no such position",
+        Cause::CellHeld => "cell held",
+        Cause::CellNotHeld => "cell not held",
+        Cause::NoSetting => "no setting fits",
+        Cause::BadMark => "mark unknown or out of place",
+        Cause::CutShort => "record cut short",
+        Cause::WrongLength => "wrong length",
+        Cause::SheetPosition => "position out of range",
+        Cause::SheetHold => "held cell differs",
+        Cause::SheetPair => "pair not carried",
+        Cause::PastColumns => "more than S columns",
+    }
+}
+
 impl fmt::Display for Cause {
     ghost output = { λ c. Some (cause_words c) };
 
     fn fmt<W: fmt::Write>(&self, f: &mut fmt::Formatter<W>) -> fmt::Result {
-        f.write_str(match self {
-            Cause::UnknownCard => "kind or line count unknown",
-            Cause::NoInput => "no such input",
-            Cause::NoOutput => "no such output",
-            Cause::InputBusy => "input busy",
-            Cause::OutputBusy => "output busy",
-            Cause::InputIdle => "input idle",
-            Cause::NoCell => "no such cell",
-            Cause::NoPosition => "no such position",
-            Cause::CellHeld => "cell held",
-            Cause::CellNotHeld => "cell not held",
-            Cause::NoSetting => "no setting fits",
-            Cause::BadMark => "mark unknown or out of place",
-            Cause::CutShort => "record cut short",
-            Cause::WrongLength => "wrong length",
-            Cause::SheetPosition => "position out of range",
-            Cause::SheetHold => "held cell differs",
-            Cause::SheetPair => "pair not carried",
-            Cause::PastColumns => "more than S columns",
-        })
+        f.write_str(cause_words(*self))
     }
 }
 

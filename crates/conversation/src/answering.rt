@@ -24,7 +24,7 @@ pub(crate) fn commission(name: CardName, out: &mut Vec<u8>) -> Result<Phase, All
             put(
                 &Answer::Done {
                     moved: 0,
-                    setting: cabinet.setting(),
+                    setting: cabinet.standing_setting(),
                 },
                 out,
             )?;
@@ -50,7 +50,7 @@ fn act(
         Ok(Reply::Moved(moved)) => put(
             &Answer::Done {
                 moved,
-                setting: cabinet.setting(),
+                setting: cabinet.standing_setting(),
             },
             out,
         ),

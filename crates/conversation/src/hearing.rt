@@ -1,5 +1,5 @@
 // A conversation, heard in pieces of any length.
-ghost use Rattle.std.specs.Prelude.{◌≡◌, [], ◌∷◌, IfOk, OnOk};
+ghost use Rattle.std.specs.Prelude.{◌≡◌, [], ◌∷◌, IfOk, OnOk, OnErr};
 ghost use Rattle.records.specs.Format.{image};
 ghost use Rattle.conversation.specs.Answering.{Responded, phase_lines, over_phase};
 ghost use Rattle.conversation.specs.Talking.{Heard, Hears, Finishes, Ended};
@@ -53,9 +53,10 @@ impl Talk {
         }
     }
 
-    // Hears one byte, and says the answer if a record ends with it.
+    // Hears one byte, and says the answer if a record ends with it. Where there is no memory for the answer, the byte is not held.
     pub fn hear(&mut self, byte: u8, out: &mut Vec<u8>) -> Result<(), AllocError>
-        ensures { OnOk result (Hears (byte ∷ []) out.old.items self.old out.new.items self.new) }
+        ensures heard { OnOk result (Hears (byte ∷ []) out.old.items self.old out.new.items self.new) }
+        ensures held { OnErr result (self.new.pending.items ≡ self.old.pending.items) }
     {
         if self.is_over() {
             return Ok(());
@@ -64,15 +65,25 @@ impl Talk {
         match read(lines_at(&self.phase), self.pending.as_slice()) {
             Ok(Some((order, _))) => {
                 let phase = std::mem::replace(&mut self.phase, Phase::Over);
-                let next = respond(phase, order, out);
-                self.pending.clear();
-                self.phase = next?;
+                match respond(phase, order, out) {
+                    Ok(next) => {
+                        self.pending.clear();
+                        self.phase = next;
+                    }
+                    Err(error) => {
+                        self.pending.pop();
+                        return Err(error);
+                    }
+                }
             }
             Ok(None) => {}
             Err(fault) => {
                 if fault.cause != Cause::CutShort {
+                    if let Err(error) = put(&Answer::from(fault), out) {
+                        self.pending.pop();
+                        return Err(error);
+                    }
                     self.pending.clear();
-                    put(&Answer::from(fault), out)?;
                     self.phase = Phase::Over;
                 }
             }

@@ -6,7 +6,7 @@ use native.Mathlib.Omega.{arith}
 use Rattle.std.proofs.Math.Decide.{dec_le}
 use Rattle.std.proofs.Math.Arith.{digits_div, digits_mod}
 use Rattle.card.specs.Meaning.{Lawful, Sound}
-use Rattle.halving.specs.Halving.{lines_at, columns_at, half, side, leave, place, halving, OneOrTwo}
+use Rattle.halving.specs.Halving.{lines_at, columns_at, half, side, leave, place, halving, benes, baseline, OneOrTwo}
 use Rattle.halving.specs.Counts.{lines_some, cells_some, columns_some, lines_few, cells_few, columns_few, bit_cases, half_lawful, side_below}
 use Rattle.halving.specs.Steps.{place_start, place_inside, place_past}
 
@@ -87,6 +87,12 @@ module _ (w : ℕ) where
         within = within k;
         apart = apart k;
       }
+
+pub benes_sound : (level : ℕ) → level < 4 → Sound (benes level)
+benes_sound level small = halving_sound 2 level (omega arith) small
+
+pub baseline_sound : (level : ℕ) → level < 4 → Sound (baseline level)
+baseline_sound level small = halving_sound 1 level (omega arith) small
 
 -- the card of a family
 pub family_sound : (w : ℕ) → OneOrTwo w → (level : ℕ) → level < 4 → Sound (halving w level)

@@ -1,6 +1,8 @@
 // Checks a sheet that stands as text on standard input, and writes the verdict in words.
 #![tactic(auto)]
 
+use anyhow::anyhow;
+use sheet_text::phrases::{cause_words, misread_words, verdict_words};
 use sheet_text::reading::parse;
 use std::io::Read;
 
@@ -8,15 +10,15 @@ use std::io::Read;
 fn main(rt: HostRuntime) -> anyhow::Result<()> {
     let mut text = Vec::new(rt.alloc());
     rt.stdin().read_to_end(&mut text)?;
-    let request = parse(text.as_slice())?;
+    let request = parse(text.as_slice()).map_err(|misread| anyhow!(misread_words(misread)))?;
     match request.check() {
-        Ok(verdict) => rt.println(verdict)?,
+        Ok(verdict) => rt.println(verdict_words(verdict))?,
         Err(fault) => {
-            let cause = fault.cause;
+            let words = cause_words(fault.cause);
             let number = fault.number();
             let layer = fault.layer_number();
             let place = fault.place;
-            println!(rt; "refused: {cause} (number {number}, layer {layer}, place {place})")?;
+            println!(rt; "refused: {words} (number {number}, layer {layer}, place {place})")?;
         }
     }
     Ok(())

@@ -1,11 +1,16 @@
 -- Numbers and lists of numbers among the words of a text.
-use Rattle.std.specs.Prelude.{◌≡◌, ℕ, ◌≤◌, ◌⊎◌, List, [], ◌∷◌, length, Some, None, codes, Option, ◌≢◌}
+use Rattle.std.specs.Prelude.{◌≡◌, ℕ, ◌≤◌, ◌⊎◌, List, [], ◌∷◌, length, take, Some, None, codes, Option, ◌≢◌}
 use Rattle.card.specs.Settling.{none}
 use Rattle.words.specs.Numbers.{Number}
+use Rattle.sheet_text.specs.declared.numbers.Numbers.{Numbers}
 
 -- the bytes of a word
 abbrev pub Word : Type 0
 Word = List ℕ
+
+-- the numbers of a list
+abbrev pub values : Numbers → List ℕ
+values n = take n.count n.items
 
 -- a word of a list writes this: '-' stands for none
 abbrev pub Entry : Word → ℕ → Type 0

@@ -3,7 +3,7 @@ use Rattle.std.specs.Prelude.{◌≡◌, ℕ, List, [], ◌∷◌, Ok, Err, code
 use Rattle.sheet_text.specs.declared.request.Request.{Request}
 use Rattle.sheet_text.specs.declared.reading.Misread.{Misread}
 use Rattle.sheet_text.specs.declared.reading.Misread.TheVariants.{Kind, Lines, Plan, Holds, Sheet, End}
-use Rattle.sheet_text.specs.Lists.{Word, Unnamed, Unvalued, Valued, Listed}
+use Rattle.sheet_text.specs.Lists.{Word, values, Unnamed, Unvalued, Valued, Listed}
 
 -- the kind and the line count of a card, and the words after them
 pub record CardRead (ws : List Word) (k n : ℕ) (rest : List Word) : Type 0 where
@@ -27,7 +27,7 @@ pub record Asked : Type 0 where
 
 -- the numbers of what the reader answers
 abbrev pub outcome : Result Request Misread → Result Asked Misread
-outcome (Ok q) = Ok (record { kind = q.kind; lines = q.lines; plan = q.plan.items; holds = q.holds.items; sheet = q.sheet.items })
+outcome (Ok q) = Ok (record { kind = q.kind; lines = q.lines; plan = values q.plan; holds = values q.holds; sheet = values q.sheet })
 outcome (Err e) = Err e
 
 -- a whole request; or the first part that is missing or not in its form, with the parts before it

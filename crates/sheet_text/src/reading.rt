@@ -2,11 +2,14 @@
 ghost use Rattle.std.specs.Prelude.{◌≡◌, Some, ◌∷◌, MatchOption};
 ghost use Rattle.sheets.specs.Sole.{Sole};
 ghost use Rattle.words.specs.Words.{words_of};
-ghost use Rattle.sheet_text.specs.Lists.{Entering, EntryOf, Listed, Unentered, Unnamed, Unvalued, Valued};
+ghost use Rattle.sheet_text.specs.Lists.{values, Entering, EntryOf, Listed, Unentered, Unnamed, Unvalued, Valued};
 ghost use Rattle.sheet_text.specs.Phrases.{misread_words};
 ghost use Rattle.sheet_text.specs.Requests.{ListRead, Reading, outcome};
 
-use super::request::{Numbers, Request};
+use super::numbers::Numbers;
+use super::phrases::misread_words;
+use super::request::Request;
+use arrayvec::ArrayVec;
 use card::NONE;
 use std::error::Error;
 use std::fmt;
@@ -28,17 +31,7 @@ impl fmt::Display for Misread {
     ghost output = { λ m. Some (misread_words m) };
 
     fn fmt<W: fmt::Write>(&self, f: &mut fmt::Formatter<W>) -> fmt::Result {
-        f.write_str(match self {
-            Misread::Kind => "the text begins with `kind` and a number from 0 to 255",
-            Misread::Lines => "after the kind come `lines` and a number from 0 to 255",
-            Misread::Plan => "after the line count comes `plan`",
-            Misread::Holds =>
-                "after `plan` come at most 64 numbers from 0 to 255 or -, and then `holds`",
-            Misread::Sheet =>
-                "after `holds` come at most 64 numbers from 0 to 255 or -, and then `sheet`",
-            Misread::End =>
-                "after `sheet` come at most 64 numbers from 0 to 255 or -, and nothing else",
-        })
+        f.write_str(misread_words(*self))
     }
 }
 
@@ -80,9 +73,9 @@ fn entered(text: &[u8]) -> Option<(u8, &[u8])>
 
 // The numbers up to the first word that writes none, and the text after them.
 fn listed(text: &[u8]) -> (Numbers, &[u8])
-    ensures { Listed (words_of text.now) result.0.items (words_of result.1.now) }
+    ensures { Listed (words_of text.now) (values result.0) (words_of result.1.now) }
 {
-    let mut numbers = Numbers::new();
+    let mut numbers = ArrayVec::<u8, 64>::new();
     let mut rest = text;
     while !numbers.is_full() {
         let Some((value, after)) = entered(rest) else {
@@ -91,12 +84,12 @@ fn listed(text: &[u8]) -> (Numbers, &[u8])
         numbers.push(value);
         rest = after;
     }
-    (numbers, rest)
+    (Numbers::of(&numbers), rest)
 }
 
 // The list after this name, and the text after it.
 fn list_after<'a>(text: &'a [u8], name: &[u8]) -> Option<(Numbers, &'a [u8])>
-    ensures { MatchOption result (Unnamed (words_of text.now) name.now) (λ p. ListRead (words_of text.now) name.now p.0.items (words_of p.1.now)) }
+    ensures { MatchOption result (Unnamed (words_of text.now) name.now) (λ p. ListRead (words_of text.now) name.now (values p.0) (words_of p.1.now)) }
 {
     let entries = named(text, name)?;
     Some(listed(entries))

@@ -1,17 +1,15 @@
 // What a text asks to be checked.
 ghost use Rattle.sheets.specs.Sole.{Sole};
 ghost use Rattle.by_kind.specs.Answering.{SheetAnswer};
+ghost use Rattle.sheet_text.specs.Lists.{values};
 
-use arrayvec::ArrayVec;
+use super::numbers::Numbers;
 use card::fault::Fault;
 use kinds::plain::CardName;
 use sheets::Verdict;
 
-// At most 64 numbers, as many as a card can have cells.
-pub type Numbers = ArrayVec<u8, 64>;
-
 // A card by its kind and line count, a plan, holds and a sheet.
-#[derive(Clone, Drop)]
+#[derive(Clone, Copy)]
 pub struct Request {
     pub kind: u8,
     pub lines: u8,
@@ -23,7 +21,7 @@ pub struct Request {
 impl Request {
     // The verdict on the sheet.
     pub fn check(&self) -> Result<Verdict, Fault>
-        ensures { Sole (SheetAnswer self.now.kind self.now.lines self.now.plan.items self.now.holds.items self.now.sheet.items) result }
+        ensures { Sole (SheetAnswer self.now.kind self.now.lines (values self.now.plan) (values self.now.holds) (values self.now.sheet)) result }
     {
         by_kind::check(
             CardName {

@@ -34,14 +34,20 @@ impl Verdict {
 }
 
 // The verdict in words.
+pub fn verdict_words(verdict: Verdict) -> &'static str
+    ensures { result.now ≡ verdict_words verdict }
+{
+    match verdict {
+        Verdict::First => "the sheet fits and comes first",
+        Verdict::Other => "the sheet fits, but another setting comes first",
+    }
+}
+
 impl fmt::Display for Verdict {
     ghost output = { λ v. Some (verdict_words v) };
 
     fn fmt<W: fmt::Write>(&self, f: &mut fmt::Formatter<W>) -> fmt::Result {
-        f.write_str(match self {
-            Verdict::First => "the sheet fits and comes first",
-            Verdict::Other => "the sheet fits, but another setting comes first",
-        })
+        f.write_str(verdict_words(*self))
     }
 }
 

@@ -118,12 +118,8 @@ comment_cut (b ∷ bs) = ⊎_elim (λ e. rw (eq-eqb b 10 e) (rest_newline b bs e
 pub comment_past : (b : ℕ) (bs : List ℕ) → b ≡ 35 → words_of (b ∷ bs) ≡ words_of (drop (prefix_len (λ b. not (b == 10)) bs) bs)
 comment_past b bs e = ap runs (kept_hash b bs e ∙ comment_cut bs)
 
-pub blank_past : (b : ℕ) (bs : List ℕ) → (b ≡ 35 → ⊥) → wordy b ≡ false → words_of (b ∷ bs) ≡ words_of bs
-blank_past b bs ne e =
-    ⊎_elim
-    (λ lt. let t : wordy b ≡ true = rw (lt-leb b 32 lt, ne_eqb b 35 ne) refl in absurd (cc (t, e)))
-    (λ le. ap runs (kept_other b bs ne) ∙ runs_blank b (uncommented bs) le)
-    (cases_lt 32 b)
+pub blank_past : (b : ℕ) (bs : List ℕ) → b ≤ 32 → words_of (b ∷ bs) ≡ words_of bs
+blank_past b bs le = ap runs (kept_other b bs (λ z. omega arith)) ∙ runs_blank b (uncommented bs) le
 
 -- what comes after the first byte of an end of a text, past so many more, is an end of it too
 pub farther : {text rest others : List ℕ} {b : ℕ} (front more left : List ℕ) → text ≡ front ++ rest → rest ≡ b ∷ others → others ≡ more ++ left → text ≡ (front ++ (b ∷ more)) ++ left

@@ -43,13 +43,14 @@ fn from_word(text: &[u8]) -> &[u8]
     ensures words { words_of text.now ≡ words_of result.now }
 {
     let mut rest = text;
+    // Blanks are asked for first, since a text may have many in a row.
     while let Some((first, others)) = rest.split_first() {
-        if *first == COMMENT {
-            rest = others.split_at(line_len(others)).1;
-        } else if is_wordy(*first) {
-            return rest;
-        } else {
+        if *first <= SPACE {
             rest = others;
+        } else if *first == COMMENT {
+            rest = others.split_at(line_len(others)).1;
+        } else {
+            return rest;
         }
     }
     rest

@@ -11,8 +11,8 @@ pub returns-in_err-place : goal.returns-in_err-place
 returns-in_err-place g c =
     let p = err_from_is_err_and c.from_residual.result c.from_residual.ensures.1 in
     rw p.1
-    (λ r. never_refused (g.C.Card.meaning c.args.self.now.card) c.setting.result.now c.loop-input.input c.columns-columns.result c.in_err-place.field-0.0
-    (rw c.setting.ensures (record { lawful = r.first.fits.lawful; input = omega (arith, c.lines-input-end.ensures); reached = omega (arith, c.columns-columns.ensures) }))
+    (λ r. never_refused (g.C.Card.meaning c.args.self.now.card) c.standing_setting.result.now c.loop-input.input c.columns-columns.result c.in_err-place.field-0.0
+    (rw c.standing_setting.ensures (record { lawful = r.first.fits.lawful; input = omega (arith, c.lines-input-end.ensures); reached = omega (arith, c.columns-columns.ensures) }))
     c.in_err-place.ensures)
 
 pub loop-input-preserved : goal.loop-input-preserved
@@ -22,7 +22,7 @@ loop-input-preserved g c =
     let s = standing m c.args.self.now.state in
     elim c.if-is_some.branch [
       | then-is_some+in_ok-place w ↦
-          let at : Placed m s.setting c.loop-input.input m.columns (Ok w.in_ok-place.place) = subst (λ (l : List ℕ). Placed m l c.loop-input.input m.columns (Ok w.in_ok-place.place)) w.setting.ensures (subst (λ (k : ℕ). Placed m w.setting.result.now c.loop-input.input k (Ok w.in_ok-place.place)) c.columns-columns.ensures w.in_ok-place.ensures) in
+          let at : Placed m s.setting c.loop-input.input m.columns (Ok w.in_ok-place.place) = subst (λ (l : List ℕ). Placed m l c.loop-input.input m.columns (Ok w.in_ok-place.place)) w.standing_setting.ensures (subst (λ (k : ℕ). Placed m w.standing_setting.result.now c.loop-input.input k (Ok w.in_ok-place.place)) c.columns-columns.ensures w.in_ok-place.ensures) in
           rw w.table-is (busy_next m sound s c.loop-input.input c.loop-input.table c.loop-input.invariant (is_busy _ c.loop-input.input _ c.output.ensures w.if-is_some.ensures) w.in_ok-place.place at.0 at.1)
       | else-is_some w ↦ rw w.table-is (idle_next m sound s c.loop-input.input c.loop-input.table c.loop-input.invariant (is_idle _ c.loop-input.input _ c.output.ensures w.if-is_some.ensures))
     ]

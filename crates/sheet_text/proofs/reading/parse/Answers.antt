@@ -1,7 +1,7 @@
 use Rattle.std.proofs.Common.{◌≡◌, List, [], codes, subst}
 use Rattle.std.proofs.lemmas.Option.{MatchOption-at_none, MatchOption-at_some}
 use Rattle.words.specs.Words.{words_of}
-use Rattle.sheet_text.specs.Lists.{Word}
+use Rattle.sheet_text.specs.Lists.{Word, values}
 use Rattle.sheet_text.specs.Requests.{Reading, ListRead}
 use Rattle.sheet_text.proofs.OneReading.{the_reading, card_read, missing}
 use Rattle.sheet_text.proofs.reading.parse.Goals as goal
@@ -39,4 +39,4 @@ pub returns-in-None : goal.returns-in-None
 returns-in-None c =
     let last : words_of c.in_ok-sheet.text.now ≡ [] = c.in-None.ensures in
     the_reading _ _
-    (Reading.read _ _ _ _ (card_read (MatchOption-at_some _ _ _ c.in_ok-kind.ensures.ok_part c.keyed.ensures) (MatchOption-at_some _ _ _ c.in_ok-lines.ensures.ok_part c.keyed-2.ensures)) (MatchOption-at_some _ _ _ c.in_ok-plan.ensures.ok_part c.list_after.ensures) (MatchOption-at_some _ _ _ c.in_ok-holds.ensures.ok_part c.list_after-2.ensures) (subst (λ (rest : List Word). ListRead (words_of c.in_ok-holds.text.now) (codes "sheet") c.in_ok-sheet.sheet.items rest) last (MatchOption-at_some _ _ _ c.in_ok-sheet.ensures.ok_part c.list_after-3.ensures)))
+    (Reading.read _ _ _ _ (card_read (MatchOption-at_some _ _ _ c.in_ok-kind.ensures.ok_part c.keyed.ensures) (MatchOption-at_some _ _ _ c.in_ok-lines.ensures.ok_part c.keyed-2.ensures)) (MatchOption-at_some _ _ _ c.in_ok-plan.ensures.ok_part c.list_after.ensures) (MatchOption-at_some _ _ _ c.in_ok-holds.ensures.ok_part c.list_after-2.ensures) (subst (λ (rest : List Word). ListRead (words_of c.in_ok-holds.text.now) (codes "sheet") (values c.in_ok-sheet.sheet) rest) last (MatchOption-at_some _ _ _ c.in_ok-sheet.ensures.ok_part c.list_after-3.ensures)))

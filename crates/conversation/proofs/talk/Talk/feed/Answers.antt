@@ -7,7 +7,7 @@ use Rattle.conversation.proofs.talk.Talk.feed.Goals as goal
 pub loop-byte-preserved : goal.loop-byte-preserved
 loop-byte-preserved c heard drained old =
     subst (λ (x : List ℕ). Heard x (drained ++ vec_items c.hear.new.out) c.hear.new.self) (sym (both heard c.args.piece.now c.loop-byte.byte-index _ (take_more c.args.piece.now c.loop-byte.byte-index 0 c.loop-byte-test.true)))
-    (c.in_ok-hear.ensures (heard ++ take c.loop-byte.byte-index c.args.piece.now) drained (c.loop-byte.invariant heard drained old))
+    (c.in_ok-hear.ensures.heard (heard ++ take c.loop-byte.byte-index c.args.piece.now) drained (c.loop-byte.invariant heard drained old))
 
 pub returns : goal.returns
 returns c heard drained old =

@@ -40,7 +40,7 @@ settle_level-requires-clause-settleable g c =
       sized = record {
         pairs_size = rw (c.lines.ensures, c.outputs-table.ensures) ok.sized.pairs_size;
         holds_size = ok.sized.holds_size;
-        buffer_size = simp length-take (omega (arith, c.cells.ensures, cells_few g.F.OuterColumns.OUTER c.args.self.now.level.depth (outer_few g.F.OuterColumns.counted) c.args.self.now.level.small));
+        buffer_size = grind (arith, length-take, ok.sized.buffer_size, c.cells.ensures, cells_few g.F.OuterColumns.OUTER c.args.self.now.level.depth (outer_few g.F.OuterColumns.counted) c.args.self.now.level.small);
       };
       holdable = ok.holdable;
     }
