@@ -1,3 +1,4 @@
+mod Numbered
 pub mod Pairing
 pub mod Firsts
 mod Filling

@@ -56,8 +56,8 @@ pub trait Card {
                 place: 0,
             });
         }
-        for (i, &position) in setting.iter().enumerate() {
-            let cell = i as u8;
+        // The slice is the whole setting, cut at the count: so the loop is compiled to one count, which is faster.
+        for (cell, &position) in (0..cells).zip(&setting[..cells as usize]) {
             let positions = self.positions(cell)?;
             if position >= positions {
                 return Err(Fault {
